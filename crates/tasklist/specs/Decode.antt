@@ -1,0 +1,127 @@
+-- Reading a job list: document 01, "Job lists" and the refusals of check.
+use Prim.Native.Nat.{ℕ, _+_, _*_}
+use mathlib.Core.List.{List, [], _∷_}
+use mathlib.Core.Bool.{Bool, true, false, cond, _&&_}
+use mathlib.Core.Option.{Option, none, some}
+use lib.ListN.{getD}
+use lib.Dec.{leb, ltb, eqb}
+use Rattle.tasklist.specs.declared.Instruction.{Instruction}
+use Rattle.tasklist.specs.declared.Instruction.the-variants.{Const, Add, Sub, Less, Load, Store, Skip, Spawn, Wait}
+use Rattle.tasklist.specs.declared.Line.{Line}
+use Rattle.tasklist.specs.declared.Scope.{Scope}
+use Rattle.tasklist.specs.TaskList.{TaskList, task-count}
+use Rattle.tasklist.specs.Fields.{Taken, bad, took, and-then, field, only-if, tag, number, many}
+
+-- "Head: 4A 48, then entries C (1 to 64), footprints (0 to 32), sheets (1 to 32)"
+pub record Head : Type 0 where
+  pub locations : ℕ
+  pub footprints : ℕ
+  pub bodies : ℕ
+
+unfoldable pub head : List ℕ → Taken Head
+head b =
+    and-then (tag 0x48 b) λ _ b₁.
+    and-then (number 1 64 3 b₁) λ c b₂.
+    and-then (number 0 32 3 b₂) λ f b₃.
+    and-then (number 1 32 3 b₃) λ s b₄.
+    took (record { locations = c; footprints = f; bodies = s }) b₄
+
+-- "Entry below C, register 0 to 3": the number that a line's value is below, by its kind; another kind has no value
+unfoldable pub line-limit : ℕ → ℕ → ℕ
+line-limit locations kind = getD (locations ∷ locations ∷ 4 ∷ 4 ∷ []) kind 0
+
+unfoldable pub line-ok : ℕ → Line → Bool
+unfolding line-limit
+line-ok locations l = ltb (l .value) (line-limit locations (l .kind))
+
+unfoldable pub is-line : ℕ → List ℕ → Option Line
+unfolding line-ok
+is-line locations f =
+    let l : Line = record { kind = getD f 0 0; value = getD f 1 0 } in
+    only-if (line-ok locations l) l
+
+unfoldable pub line : ℕ → List ℕ → Taken Line
+unfolding is-line field
+line locations = field 2 4 (is-line locations)
+
+-- "Each footprint: 4A 46, a count 0 to 8, then lines of two bytes (kind, value)"
+unfoldable pub footprint : ℕ → List ℕ → Taken (List Line)
+footprint locations b =
+    and-then (tag 0x46 b) λ _ b₁.
+    and-then (number 0 8 4 b₁) λ n b₂.
+    many (λ _. line locations) 0 n [] b₂
+
+-- the nine forms in the order of their codes, each with its own fields: "fields not listed are 0"
+unfoldable pub forms : ℕ → ℕ → ℕ → List (Option Instruction)
+forms a b c =
+    some (Const a (b + 256 * c)) ∷ some (Add a b c) ∷ some (Sub a b c) ∷ some (Less a b c) ∷
+    only-if (eqb c 0) (Load a b) ∷ only-if (eqb c 0) (Store a b) ∷ only-if (eqb c 0) (Skip a b) ∷
+    only-if (eqb c 0) (Spawn a b) ∷ only-if (eqb b 0 && eqb c 0) (Wait a) ∷ []
+
+-- "Another code .. is a bad instruction"
+unfoldable pub form : ℕ → ℕ → ℕ → ℕ → Option Instruction
+unfolding forms
+form code a b c = getD (forms a b c) code none
+
+-- "a register above 3, is a bad instruction"
+unfoldable pub register : ℕ → Bool
+register r = ltb r 4
+
+-- "A skip from place i with b ends at i + 1 + b, at most the sheet's count. A spawn names a footprint of the list and
+-- a sheet of the list, higher than its own."
+unfoldable pub instruction-ok : Scope → Instruction → Bool
+instruction-ok at (Const a v) = register a
+instruction-ok at (Add a b c) = register a && register b && register c
+instruction-ok at (Sub a b c) = register a && register b && register c
+instruction-ok at (Less a b c) = register a && register b && register c
+instruction-ok at (Load a b) = register a && register b
+instruction-ok at (Store a b) = register a && register b
+instruction-ok at (Skip a b) = register a && leb (at .place + 1 + b) (at .size)
+instruction-ok at (Spawn a b) = ltb (at .body) a && ltb a (at .bodies) && ltb b (at .footprints)
+instruction-ok at (Wait a) = register a
+
+abbrev pub kept : {A : Type 0} → (A → Bool) → Option A → Option A
+kept ok none = none
+kept ok (some a) = only-if (ok a) a
+
+unfoldable pub is-instruction : Scope → List ℕ → Option Instruction
+is-instruction at f = kept (instruction-ok at) (form (getD f 0 0) (getD f 1 0) (getD f 2 0) (getD f 3 0))
+
+unfoldable pub instruction : Scope → List ℕ → Taken Instruction
+unfolding is-instruction field
+instruction at = field 4 5 (is-instruction at)
+
+abbrev pub scope : Head → ℕ → ℕ → ℕ → Scope
+scope h s n i = record { footprints = h .footprints; bodies = h .bodies; body = s; size = n; place = i }
+
+-- "Each sheet: 4A 42, a count 0 to 32, then instructions of four bytes: code, a, b, c"
+unfoldable pub body : Head → ℕ → List ℕ → Taken (List Instruction)
+body h s b =
+    and-then (tag 0x42 b) λ _ b₁.
+    and-then (number 0 32 5 b₁) λ n b₂.
+    many (λ i. instruction (scope h s n i)) 0 n [] b₂
+
+-- the records of a list, in their order
+unfoldable pub records : List ℕ → Taken TaskList
+records b =
+    and-then (head b) λ h b₁.
+    and-then (many (λ _. footprint (h .locations)) 0 (h .footprints) [] b₁) λ fs b₂.
+    and-then (many (body h) 0 (h .bodies) [] b₂) λ bs b₃.
+    took (record { locations = h .locations; footprints = fs; bodies = bs }) b₃
+
+pub data Decoded : Type 0 where
+  refused : ℕ → Decoded
+  accepted : TaskList → Decoded
+
+-- "count(0) is at most 128"
+unfoldable pub fits : TaskList → Bool
+fits l = leb (task-count l 0) 128
+
+-- "Then 6, bytes left over; then 7, count(0) above 128."
+unfoldable pub finish : Taken TaskList → Decoded
+finish (bad k) = refused k
+finish (took l []) = cond (fits l) (accepted l) (refused 7)
+finish (took l (x ∷ rest)) = refused 6
+
+unfoldable pub decode : List ℕ → Decoded
+decode b = finish (records b)

@@ -1,0 +1,77 @@
+// Job lists: the reader and the writer of document 01's binary format, and the tables that a read list is kept in.
+// The runtime stands above this crate and uses its promises only.
+
+// One instruction of a task body (document 01: sheet), one case for each of the nine forms.
+pub enum Instruction {
+    // 0 const: register `target` := `value`.
+    Const { target: u8, value: u16 },
+    // 1 add: `target` := `left` + `right`, modulo 2^32.
+    Add { target: u8, left: u8, right: u8 },
+    // 2 sub: `target` := `left` - `right`, modulo 2^32.
+    Sub { target: u8, left: u8, right: u8 },
+    // 3 less: `target` := 1 if `left` < `right`, else 0.
+    Less { target: u8, left: u8, right: u8 },
+    // 4 load: `target` := the location whose number is in register `place`.
+    Load { target: u8, place: u8 },
+    // 5 store: the location whose number is in register `place` := register `source`.
+    Store { place: u8, source: u8 },
+    // 6 skip: if register `test` is 0, pass over the next `length` instructions.
+    Skip { test: u8, length: u8 },
+    // 7 spawn: a task that runs `body` under `footprint`.
+    Spawn { body: u8, footprint: u8 },
+    // 8 wait: for the location whose number is in register `place`.
+    Wait { place: u8 },
+}
+
+// One line of a footprint: kind 0 reads and 1 writes location `value`; 2 reads and 3 writes the location whose
+// number is in register `value`.
+pub struct Line {
+    pub kind: u8,
+    pub value: u8,
+}
+
+// An element of the instruction table.
+pub struct Cell {
+    pub instruction: Instruction,
+}
+
+// What an instruction is tested against: how many footprints and bodies the list has, the number and size of its
+// own body, and its place there.
+pub struct Scope {
+    pub footprints: u8,
+    pub bodies: u8,
+    pub body: u8,
+    pub size: u8,
+    pub place: u8,
+}
+
+// A job list in tables. Footprint f has `widths[f]` lines, from `lines[8 * f]` on; body s has `sizes[s]`
+// instructions, from `cells[32 * s]` on; `counts[s]` is document 01's count(s), 129 standing for all above 128.
+pub struct Tables {
+    pub locations: u8,
+    pub footprints: u8,
+    pub bodies: u8,
+    pub widths: [u8; 32],
+    pub lines: [Line; 256],
+    pub sizes: [u8; 32],
+    pub cells: [Cell; 1024],
+    pub counts: [u8; 32],
+}
+
+// Why a list is refused: document 01's numbers 1 to 7, in this order.
+pub enum Refusal {
+    // 1: the bytes end within a field.
+    Incomplete,
+    // 2: a wrong mark.
+    Tag,
+    // 3: a head number out of range.
+    Head,
+    // 4: a footprint's count or line.
+    Footprint,
+    // 5: a body's count or instruction.
+    Body,
+    // 6: bytes left over.
+    Leftover,
+    // 7: more than 128 tasks.
+    Tasks,
+}

@@ -4,9 +4,9 @@ use mathlib.Core.Path.{_≡_, refl}
 use mathlib.Core.List.{List, [], _∷_}
 use lib.ListN.{length}
 use Rattle.tasklist.specs.declared.Instruction.the-variants.{Const, Load, Store, Spawn}
-use Rattle.tasklist.specs.TaskList.{TaskList, total, adds, count-body, counts, task-count}
-use Rattle.tasklist.specs.Fields.{field, is-tag, tag, in-range, number, many}
-use Rattle.tasklist.specs.Decode.{head, line-limit, line-ok, is-line, line, footprint, forms, form, register, instruction-ok, is-instruction, instruction, body, records, fits, finish, decode, accepted}
+use Rattle.tasklist.specs.TaskList.{TaskList, total, adds, count-body, count-from, counts, task-count}
+use Rattle.tasklist.specs.Fields.{field, is-tag, tag, in-range, number, counted, many, row}
+use Rattle.tasklist.specs.Decode.{head-numbers, head, line-limit, line-ok, is-line, line, footprint, forms, form, register, instruction-ok, is-instruction, instruction, body, list-behind, sized, finish, decode, accepted}
 use Rattle.tasklist.specs.Encode.{instruction-fields, line-fields, joined, footprint-bytes, body-bytes, head-bytes, encode}
 
 abbrev pub P-bytes : List ℕ
@@ -23,19 +23,19 @@ P =
     record {
       locations = 2;
       footprints =
-        (record { kind = 1; value = 0 } ∷ []) ∷
-        (record { kind = 0; value = 0 } ∷ record { kind = 1; value = 1 } ∷ []) ∷ [];
+          (record { kind = 1; value = 0 } ∷ []) ∷
+          (record { kind = 0; value = 0 } ∷ record { kind = 1; value = 1 } ∷ []) ∷ [];
       bodies =
-        (Spawn 1 0 ∷ Spawn 2 1 ∷ []) ∷
-        (Const 1 9 ∷ Store 0 1 ∷ []) ∷
-        (Load 1 0 ∷ Const 2 1 ∷ Store 2 1 ∷ []) ∷ []
+          (Spawn 1 0 ∷ Spawn 2 1 ∷ []) ∷
+          (Const 1 9 ∷ Store 0 1 ∷ []) ∷
+          (Load 1 0 ∷ Const 2 1 ∷ Store 2 1 ∷ []) ∷ [];
     }
 
 pub P-length : length P-bytes ≡ 54
 P-length = refl
 
 pub P-decodes : decode P-bytes ≡ accepted P
-unfolding field is-tag tag in-range number many head line-limit line-ok is-line line footprint forms form register instruction-ok is-instruction instruction body records fits finish decode total adds count-body counts task-count
+unfolding field is-tag tag in-range number counted many row head-numbers head line-limit line-ok is-line line footprint forms form register instruction-ok is-instruction instruction body list-behind sized finish decode total adds count-body count-from counts task-count
 P-decodes = refl
 
 pub P-encodes : encode P ≡ P-bytes

@@ -20,7 +20,7 @@ scope-of l s i =
       bodies = length (l .bodies);
       body = s;
       size = length (body-of l s);
-      place = i
+      place = i;
     }
 
 pub record Accepted (l : TaskList) : Type 0 where

@@ -9,22 +9,21 @@ use Rattle.tasklist.specs.declared.Instruction.{Instruction}
 use Rattle.tasklist.specs.declared.Instruction.the-variants.{Const, Add, Sub, Less, Load, Store, Skip, Spawn, Wait}
 use Rattle.tasklist.specs.declared.Line.{Line}
 use Rattle.tasklist.specs.declared.Scope.{Scope}
+use Rattle.tasklist.specs.declared.Header.{Header}
 use Rattle.tasklist.specs.TaskList.{TaskList, task-count}
-use Rattle.tasklist.specs.Fields.{Taken, bad, took, and-then, field, only-if, tag, number, many}
+use Rattle.tasklist.specs.Fields.{Taken, bad, took, and-then, field, only-if, tag, number, many, row}
 
--- "Head: 4A 48, then entries C (1 to 64), footprints (0 to 32), sheets (1 to 32)"
-pub record Head : Type 0 where
-  pub locations : ℕ
-  pub footprints : ℕ
-  pub bodies : ℕ
+-- "entries C (1 to 64), footprints (0 to 32), sheets (1 to 32)"
+unfoldable pub head-numbers : List ℕ → Taken Header
+head-numbers b =
+    and-then (number 1 64 3 b) λ c b₁.
+    and-then (number 0 32 3 b₁) λ f b₂.
+    and-then (number 1 32 3 b₂) λ s b₃.
+    took (record { locations = c; footprints = f; bodies = s }) b₃
 
-unfoldable pub head : List ℕ → Taken Head
-head b =
-    and-then (tag 0x48 b) λ _ b₁.
-    and-then (number 1 64 3 b₁) λ c b₂.
-    and-then (number 0 32 3 b₂) λ f b₃.
-    and-then (number 1 32 3 b₃) λ s b₄.
-    took (record { locations = c; footprints = f; bodies = s }) b₄
+-- "Head: 4A 48, then .."
+unfoldable pub head : List ℕ → Taken Header
+head b = and-then (tag 0x48 b) λ _ b₁. head-numbers b₁
 
 -- "Entry below C, register 0 to 3": the number that a line's value is below, by its kind; another kind has no value
 unfoldable pub line-limit : ℕ → ℕ → ℕ
@@ -46,10 +45,7 @@ line locations = field 2 4 (is-line locations)
 
 -- "Each footprint: 4A 46, a count 0 to 8, then lines of two bytes (kind, value)"
 unfoldable pub footprint : ℕ → List ℕ → Taken (List Line)
-footprint locations b =
-    and-then (tag 0x46 b) λ _ b₁.
-    and-then (number 0 8 4 b₁) λ n b₂.
-    many (λ _. line locations) 0 n [] b₂
+footprint locations = row 0x46 8 4 (λ _ _. line locations)
 
 -- the nine forms in the order of their codes, each with its own fields: "fields not listed are 0"
 unfoldable pub forms : ℕ → ℕ → ℕ → List (Option Instruction)
@@ -91,37 +87,33 @@ unfoldable pub instruction : Scope → List ℕ → Taken Instruction
 unfolding is-instruction field
 instruction at = field 4 5 (is-instruction at)
 
-abbrev pub scope : Head → ℕ → ℕ → ℕ → Scope
+abbrev pub scope : Header → ℕ → ℕ → ℕ → Scope
 scope h s n i = record { footprints = h .footprints; bodies = h .bodies; body = s; size = n; place = i }
 
 -- "Each sheet: 4A 42, a count 0 to 32, then instructions of four bytes: code, a, b, c"
-unfoldable pub body : Head → ℕ → List ℕ → Taken (List Instruction)
-body h s b =
-    and-then (tag 0x42 b) λ _ b₁.
-    and-then (number 0 32 5 b₁) λ n b₂.
-    many (λ i. instruction (scope h s n i)) 0 n [] b₂
+unfoldable pub body : Header → ℕ → List ℕ → Taken (List Instruction)
+body h s = row 0x42 32 5 (λ n i. instruction (scope h s n i))
 
--- the records of a list, in their order
-unfoldable pub records : List ℕ → Taken TaskList
-records b =
-    and-then (head b) λ h b₁.
-    and-then (many (λ _. footprint (h .locations)) 0 (h .footprints) [] b₁) λ fs b₂.
-    and-then (many (body h) 0 (h .bodies) [] b₂) λ bs b₃.
-    took (record { locations = h .locations; footprints = fs; bodies = bs }) b₃
+-- the records behind the head, in their order
+unfoldable pub list-behind : Header → List ℕ → Taken TaskList
+list-behind h b =
+    and-then (many (λ _. footprint (h .locations)) 0 (h .footprints) [] b) λ fs b₁.
+    and-then (many (body h) 0 (h .bodies) [] b₁) λ bs b₂.
+    took (record { locations = h .locations; footprints = fs; bodies = bs }) b₂
 
 pub data Decoded : Type 0 where
   refused : ℕ → Decoded
   accepted : TaskList → Decoded
 
--- "count(0) is at most 128"
-unfoldable pub fits : TaskList → Bool
-fits l = leb (task-count l 0) 128
+-- "count(0) is at most 128", else 7
+unfoldable pub sized : TaskList → Decoded
+sized l = cond (leb (task-count l 0) 128) (accepted l) (refused 7)
 
 -- "Then 6, bytes left over; then 7, count(0) above 128."
 unfoldable pub finish : Taken TaskList → Decoded
 finish (bad k) = refused k
-finish (took l []) = cond (fits l) (accepted l) (refused 7)
+finish (took l []) = sized l
 finish (took l (x ∷ rest)) = refused 6
 
 unfoldable pub decode : List ℕ → Decoded
-decode b = finish (records b)
+decode b = finish (and-then (head b) list-behind)

@@ -29,10 +29,10 @@ abbrev pub only-if : {A : Type 0} → Bool → A → Option A
 only-if t a = cond t (some a) none
 
 -- a mark, 4A and a second byte: "2 wrong mark"
-unfoldable pub is-tag : ℕ → List ℕ → Option (List ℕ)
-is-tag second f = only-if (eqb (getD f 0 0) 0x4A && eqb (getD f 1 0) second) f
+unfoldable pub is-tag : ℕ → List ℕ → Option (Unit {0})
+is-tag second f = only-if (eqb (getD f 0 0) 0x4A && eqb (getD f 1 0) second) tt
 
-unfoldable pub tag : ℕ → List ℕ → Taken (List ℕ)
+unfoldable pub tag : ℕ → List ℕ → Taken (Unit {0})
 unfolding is-tag field
 tag second = field 2 2 (is-tag second)
 
@@ -44,7 +44,15 @@ unfoldable pub number : ℕ → ℕ → ℕ → List ℕ → Taken ℕ
 unfolding in-range field
 number low high k = field 1 k (in-range low high)
 
+-- a mark, then a count from 0 to most
+unfoldable pub counted : ℕ → ℕ → ℕ → List ℕ → Taken ℕ
+counted second most k b = and-then (tag second b) λ _ b₁. number 0 most k b₁
+
 -- n things one behind the other, from number i on, behind those already taken
 unfoldable pub many : {A : Type 0} → (ℕ → List ℕ → Taken A) → ℕ → ℕ → List A → List ℕ → Taken (List A)
 many item i zero done b = took done b
 many item i (suc n) done b = and-then (item i b) (λ a rest. many item (suc i) n (done ++ (a ∷ [])) rest)
+
+-- a record of a mark, a count of at most `most`, and as many items; an item is told the count and its place
+unfoldable pub row : {A : Type 0} → ℕ → ℕ → ℕ → (ℕ → ℕ → List ℕ → Taken A) → List ℕ → Taken (List A)
+row second most k item b = and-then (counted second most k b) λ n b₁. many (item n) 0 n [] b₁

@@ -6,3 +6,4 @@ pub mod Encode
 pub mod Accepted
 pub mod Tables
 pub mod Answers
+pub mod Positions

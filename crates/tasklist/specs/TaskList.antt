@@ -2,6 +2,8 @@
 -- instructions; and the task counts, count(s).
 use Prim.Native.Nat.{ℕ, suc, _+_, _-_}
 use mathlib.Core.List.{List, [], _∷_}
+use mathlib.Core.Bool.{cond}
+use lib.Dec.{leb}
 use lib.ListN.{getD}
 use Rattle.tasklist.specs.declared.Instruction.{Instruction}
 use Rattle.tasklist.specs.declared.Instruction.the-variants.{Const, Add, Sub, Less, Load, Store, Skip, Spawn, Wait}
@@ -49,13 +51,17 @@ adds count (Wait a) = 0
 unfoldable pub count-body : (ℕ → ℕ) → List Instruction → ℕ
 count-body count is = suc (total (adds count) is)
 
+-- the count of body a, where those of bodies s and up are known; 1 for any other
+unfoldable pub count-from : ℕ → List ℕ → ℕ → ℕ
+count-from s known a = cond (leb s a) (getD known (a - s) 1) 1
+
 -- the counts of bodies s and up, given those bodies: a spawn names a higher body, so a body's count looks only at
 -- the counts behind it
 unfoldable pub counts : ℕ → List (List Instruction) → List ℕ
 counts s [] = []
 counts s (b ∷ bs) =
     let rest = counts (suc s) bs in
-    count-body (λ a. getD rest (a - suc s) 1) b ∷ rest
+    count-body (count-from (suc s) rest) b ∷ rest
 
 -- document 01's count(s); 1 where there is no body
 unfoldable pub task-count : TaskList → ℕ → ℕ

@@ -38,11 +38,11 @@ pub struct Cell {
 // What an instruction is tested against: how many footprints and bodies the list has, the number and size of its
 // own body, and its place there.
 pub struct Scope {
-    pub footprints: u8,
-    pub bodies: u8,
-    pub body: u8,
-    pub size: u8,
-    pub place: u8,
+    pub footprints: usize,
+    pub bodies: usize,
+    pub body: usize,
+    pub size: usize,
+    pub place: usize,
 }
 
 // A job list in tables. Footprint f has `widths[f]` lines, from `lines[8 * f]` on; body s has `sizes[s]`
@@ -75,3 +75,88 @@ pub enum Refusal {
     // 7: more than 128 tasks.
     Tasks,
 }
+
+// What check answers.
+pub enum Checked {
+    // Accepted: document 01's count(0).
+    Count(u8),
+    Refused(Refusal),
+}
+
+// What reading gives: check's answer, and the tables of the list, blank ones where it is refused.
+pub struct Reading {
+    pub answer: Checked,
+    pub tables: Tables,
+}
+
+// What the writer answers.
+pub enum Written {
+    // How many places it wrote.
+    Places(usize),
+    // 17: the lent slice is too short; nothing was written.
+    Short,
+}
+
+// The position behind a taken field, or why it is refused.
+pub enum Next {
+    Bad(Refusal),
+    At(usize),
+}
+
+// A number and the position behind it.
+pub enum NumberTaken {
+    Bad(Refusal),
+    Took(u8, usize),
+}
+
+// A footprint's line and the position behind it.
+pub enum LineTaken {
+    Bad(Refusal),
+    Took(Line, usize),
+}
+
+// An instruction and the position behind it.
+pub enum InstructionTaken {
+    Bad(Refusal),
+    Took(Instruction, usize),
+}
+
+// What four bytes say, before registers and targets are tested.
+pub enum Form {
+    Unknown,
+    Known(Instruction),
+}
+
+// The head's numbers.
+pub struct Header {
+    pub locations: u8,
+    pub footprints: u8,
+    pub bodies: u8,
+}
+
+// The head and the position behind it.
+pub enum HeadTaken {
+    Bad(Refusal),
+    Took(Header, usize),
+}
+
+// The footprints' tables and the position behind them.
+pub struct Footprints {
+    pub end: Next,
+    pub widths: [u8; 32],
+    pub lines: [Line; 256],
+}
+
+// The bodies' tables and the position behind them.
+pub struct Bodies {
+    pub end: Next,
+    pub sizes: [u8; 32],
+    pub cells: [Cell; 1024],
+}
+
+mod access;
+mod counts;
+mod fields;
+mod instructions;
+mod reader;
+mod writer;

@@ -1,0 +1,191 @@
+-- Laws of task counts: the table of capped counts that is filled from the last body to the first.
+use Prim.Native.Nat.{ℕ, zero, suc, _+_, _-_, _*_, _≤_, _<_, min}
+use mathlib.Core.Path.{_≡_, refl, sym, ap, _∙_, fun-ext}
+use mathlib.Core.List.{List, [], _∷_, map}
+use mathlib.Core.Bool.{Bool, true, false, cond}
+use native.Mathlib.Omega.{arith}
+use native.Mathlib.Numerals.{add-one}
+use native.Mathlib.Nat.{mul-zero, mul-suc}
+use lib.ListN.{length, take, drop, getD, set, replicate, drop-of-length-le, length-drop, length-map, List·getD-map}
+use lib.Seq.{drop-cons, drop-drop, getD-set-same, getD-set-other, getD-take, getD-drop, length-take-le}
+use lib.Dec.{leb, eqb}
+use borrow.Author.Tests.{le-leb, lt-leb, leb-true, leb-false, eqb-true, eqb-false}
+use Rattle.tasklist.specs.declared.Instruction.{Instruction}
+use Rattle.tasklist.specs.declared.Instruction.the-variants.{Const, Add, Sub, Less, Load, Store, Skip, Spawn, Wait}
+use Rattle.tasklist.specs.TaskList.{total, adds, count-body, count-from, counts, blank-instruction}
+use Rattle.tasklist.specs.Tables.{rows, capped}
+
+-- within a list the default does not matter
+pub getD-default : {A : Type 0} (l : List A) (i : ℕ) (d e : A) → i < length l → getD l i d ≡ getD l i e
+getD-default [] i d e h = let z : ⊥ = omega arith in absurd z
+getD-default (x ∷ l) zero d e h = refl
+getD-default (x ∷ l) (suc i) d e h = getD-default l i d e (omega arith)
+
+getD-replicate-self : {A : Type 0} (n i : ℕ) (a : A) → getD (replicate n a) i a ≡ a
+getD-replicate-self zero i a = refl
+getD-replicate-self (suc n) zero a = refl
+getD-replicate-self (suc n) (suc i) a = getD-replicate-self n i a
+
+pub rows-length : {A : Type 0} (w : ℕ) (ns : List ℕ) (xs : List A) → length (rows w ns xs) ≡ length ns
+unfolding rows
+rows-length w [] xs = refl
+rows-length w (n ∷ ns) xs = ap suc (rows-length w ns (drop w xs))
+
+-- a row by its number; where there is none it is empty
+pub rows-at : {A : Type 0} (w : ℕ) (ns : List ℕ) (xs : List A) (s : ℕ) → getD (rows w ns xs) s [] ≡ take (min (getD ns s 0) w) (drop (w * s) xs)
+unfolding rows
+rows-at w [] xs s =
+    let q : 0 ≡ min 0 w = omega arith in
+    ap (λ (m : ℕ). take m (drop (w * s) xs)) q
+rows-at w (n ∷ ns) xs zero = rw (mul-zero w)
+rows-at w (n ∷ ns) xs (suc s) =
+    let q : w + w * s ≡ w * suc s = omega (arith, mul-suc w s) in
+    rows-at w ns (drop w xs) s ∙
+    ap (take (min (getD ns s 0) w)) (drop-drop (w * s) w xs ∙ ap (λ (m : ℕ). drop m xs) q)
+
+pub adds-same : (f g : ℕ → ℕ) (x : Instruction) → ((a : ℕ) → f a ≡ g a) → adds f x ≡ adds g x
+adds-same f g x e = ap (λ (h : ℕ → ℕ). adds h x) (fun-ext e)
+
+adds-capped : (f : ℕ → ℕ) (x : Instruction) → adds (λ a. capped (f a)) x ≡ capped (adds f x)
+unfolding adds
+adds-capped f (Const a v) = refl
+adds-capped f (Add a b c) = refl
+adds-capped f (Sub a b c) = refl
+adds-capped f (Less a b c) = refl
+adds-capped f (Load a b) = refl
+adds-capped f (Store a b) = refl
+adds-capped f (Skip a b) = refl
+adds-capped f (Spawn a b) = refl
+adds-capped f (Wait a) = refl
+
+-- one instruction more of a body's sum
+module _ (f : ℕ → ℕ) (b : List Instruction) (all : ℕ) where
+  -- n is the sum so far, of i instructions
+  abbrev pub Summed : ℕ → ℕ → Type 0
+  Summed n i = capped (n + total (adds f) (drop i b)) ≡ capped all
+
+  pub sum-more : (table : List ℕ) (n i : ℕ) (x : Instruction) → ((a : ℕ) → getD table a 1 ≡ capped (f a)) → i < length b
+      → getD b i blank-instruction ≡ x → Summed n i → Summed (capped (n + adds (λ a. getD table a 1) x)) (i + 1)
+  unfolding total
+  sum-more table n i x known h e s =
+      let look : adds (λ a. getD table a 1) x ≡ capped (adds f x) =
+      adds-same (λ a. getD table a 1) (λ a. capped (f a)) x known ∙ adds-capped f x in
+      let open-up : total (adds f) (drop i b) ≡ adds f x + total (adds f) (drop (i + 1) b) =
+      (rw (add-one i, drop-cons b i blank-instruction h, e) refl) in
+      omega (arith, look, open-up, s)
+
+  pub sum-whole : (n i : ℕ) → n ≤ 129 → i ≡ length b → Summed n i → n ≡ capped all
+  unfolding total
+  sum-whole n i h e s =
+      let past : length b ≤ i = omega arith in
+      let none-left : total (adds f) (drop i b) ≡ 0 = ap (total (adds f)) (drop-of-length-le b past) in
+      omega (arith, none-left, s)
+
+pub sum-starts : (f : ℕ → ℕ) (b : List Instruction) → Summed f b (count-body f b) 1 0
+unfolding count-body
+sum-starts f b =
+    let q : 1 + total (adds f) b ≡ suc (total (adds f) b) = omega arith in
+    ap capped q
+
+-- looking up a count
+count-none : (s a : ℕ) → count-from s [] a ≡ 1
+unfolding count-from
+count-none s a = go (leb s a)
+  where
+    go : (t : Bool) → _≡_ {A = ℕ} (cond t (getD [] (a - s) 1) 1) 1
+    go true = refl
+    go false = refl
+
+count-here : (s x : ℕ) (l : List ℕ) → count-from s (x ∷ l) s ≡ x
+unfolding count-from
+count-here s x l =
+    let q : s - s ≡ 0 = omega arith in
+    rw (le-leb s s (omega arith), q)
+
+count-there : (s x : ℕ) (l : List ℕ) (a : ℕ) → (a ≡ s → ⊥) → count-from s (x ∷ l) a ≡ count-from (suc s) l a
+unfolding count-from
+count-there s x l a h = go (leb (suc s) a) refl
+  where
+    go : (t : Bool) → leb (suc s) a ≡ t → count-from s (x ∷ l) a ≡ count-from (suc s) l a
+    go true e =
+        let above : suc s ≤ a = leb-true (suc s) a e in
+        let q : a - s ≡ suc (a - suc s) = omega arith in
+        rw (le-leb s a (omega arith), e, q)
+    go false e =
+        let below : a < suc s = leb-false (suc s) a e in
+        let under : a < s = omega arith in
+        rw (lt-leb s a under, e)
+
+module _ (bs : List (List Instruction)) where
+  -- the counts of bodies s and up, by number
+  abbrev pub known-from : ℕ → ℕ → ℕ
+  known-from s = count-from s (counts s (drop s bs))
+
+  -- the table has the capped counts of bodies s and up, and 1 elsewhere
+  abbrev pub Known : ℕ → List ℕ → Type 0
+  Known s table = (a : ℕ) → getD table a 1 ≡ capped (known-from s a)
+
+  pub counts-more : (s : ℕ) → s < length bs
+      → counts s (drop s bs) ≡ count-body (known-from (suc s)) (getD bs s []) ∷ counts (suc s) (drop (suc s) bs)
+  unfolding counts
+  counts-more s h = rw (drop-cons bs s [] h)
+
+  pub known-starts : (n s : ℕ) → length bs ≤ s → Known s (replicate n 1)
+  unfolding counts
+  known-starts n s h a =
+      getD-replicate-self n a 1 ∙
+      sym (ap capped (ap (λ (l : List (List Instruction)). count-from s (counts s l) a) (drop-of-length-le bs h) ∙ count-none s a))
+
+  pub known-more : (s v : ℕ) (table : List ℕ) → s < length bs → s < length table → Known (suc s) table
+      → v ≡ capped (count-body (known-from (suc s)) (getD bs s [])) → Known s (set table s v)
+  known-more s v table h l k e a = go (eqb a s) refl
+    where
+      head : ℕ
+      head = count-body (known-from (suc s)) (getD bs s [])
+
+      rest : List ℕ
+      rest = counts (suc s) (drop (suc s) bs)
+
+      go : (t : Bool) → eqb a s ≡ t → getD (set table s v) a 1 ≡ capped (known-from s a)
+      go true q =
+          (rw (eqb-true a s q) (getD-set-same table s v 1 l)) ∙ e ∙
+          sym (ap capped
+          (ap (λ (m : ℕ). known-from s m) (eqb-true a s q) ∙
+          ap (λ (c : List ℕ). count-from s c s) (counts-more s h) ∙ count-here s head rest))
+      go false q =
+          getD-set-other table s a v 1 (eqb-false a s q) ∙ k a ∙
+          sym (ap capped
+          (ap (λ (c : List ℕ). count-from s c a) (counts-more s h) ∙ count-there s head rest a (eqb-false a s q)))
+
+  pub known-whole : (table : List ℕ) → Known 0 table → (s : ℕ) → getD table s 1 ≡ capped (getD (counts 0 bs) s 1)
+  unfolding count-from
+  known-whole table k s =
+      let q : s - 0 ≡ s = omega arith in
+      k s ∙ ap capped (rw (le-leb 0 s (omega arith), q) refl)
+
+-- body s of the tables, in the code's terms
+module _ {C : Type 0} (f : C → Instruction) (bodies : ℕ) (sizes : List ℕ) (cells : List C) where
+  abbrev pub row-of : ℕ → List Instruction
+  row-of s = getD (rows 32 (take bodies sizes) (map f cells)) s []
+
+  abbrev size-in : ℕ → ℕ
+  size-in s = min (getD sizes s 0) 32
+
+  row-is : (s : ℕ) → s < bodies → row-of s ≡ take (size-in s) (drop (32 * s) (map f cells))
+  row-is s h =
+      rows-at 32 (take bodies sizes) (map f cells) s ∙
+      ap (λ (n : ℕ). take (min n 32) (drop (32 * s) (map f cells))) (getD-take bodies sizes s 0 h)
+
+  pub row-length : (s : ℕ) → s < bodies → s < 32 → length cells ≡ 1024 → length (row-of s) ≡ size-in s
+  row-length s h l e =
+      ap length (row-is s h) ∙
+      length-take-le (size-in s) (drop (32 * s) (map f cells)) (omega (arith, length-drop (32 * s) (map f cells), length-map cells f))
+
+  pub row-at-place : (s i : ℕ) (d : C) → s < bodies → i < size-in s → 32 * s + i < length cells
+      → getD (row-of s) i blank-instruction ≡ f (getD cells (32 * s + i) d)
+  row-at-place s i d h l b =
+      ap (λ (r : List Instruction). getD r i blank-instruction) (row-is s h) ∙
+      getD-take (size-in s) (drop (32 * s) (map f cells)) i blank-instruction l ∙
+      getD-drop (32 * s) (map f cells) i blank-instruction ∙
+      getD-default (map f cells) (32 * s + i) blank-instruction (f d) (omega (arith, length-map cells f)) ∙
+      List·getD-map f cells (32 * s + i) d

@@ -1,0 +1,135 @@
+-- From the last body to the first: the table has the counts of the bodies behind (CountLaws).
+-- Assumes nothing.
+use Rattle.tasklist.specs.TaskList.{adds, count-body}
+use lib.ListN.{length, take, drop, getD, set, length-set, length-map}
+use mathlib.Core.Path.{_≡_, refl, sym, ap, _∙_, subst}
+use Rattle.tasklist.proofs.CountLaws.{rows-length, Summed, sum-more, sum-whole, sum-starts, known-from, Known, known-starts, known-more, known-whole, row-of, row-length, row-at-place}
+use Rattle.tasklist.specs.Tables.{rows, instructions, capped, blank-cell}
+use Rattle.tasklist.specs.declared.Cell.{Cell}
+use Rattle.tasklist.specs.declared.Instruction.{Instruction}
+use lib.Seq.{length-take-le}
+use mathlib.Core.List.{List, [], _∷_}
+use Prim.Native.Nat.{ℕ, suc, _+_, _-_, _*_, _≤_, _<_, min}
+use borrow.Author.Needs.{needs}
+use native.Mathlib.Omega.{arith}
+use Rattle.tasklist.proofs.counts.task_counts.Statement.{statement}
+use Rattle.tasklist.proofs.counts.task_counts.Tie as tie
+use Rattle.tasklist.proofs.counts.task_counts.Reads as reads
+use Rattle.tasklist.proofs.counts.task_counts.Lts as lts
+use Rattle.tasklist.proofs.counts.added.Reads as added-reads
+use Rattle.tasklist.proofs.counts.capped_sum.Reads as capped-sum-reads
+use Rattle.tasklist.proofs.counts.clamped.Reads as clamped-reads
+
+abbrev held : Cell → Instruction
+held cell = cell .instruction
+
+abbrev bodies-of : ℕ → List ℕ → List Cell → List (List Instruction)
+bodies-of bodies sizes cells = rows 32 (take bodies sizes) (instructions cells)
+
+-- the counts of the bodies behind s
+abbrev behind : ℕ → List ℕ → List Cell → ℕ → ℕ → ℕ
+behind bodies sizes cells s = known-from (bodies-of bodies sizes cells) (suc s)
+
+abbrev sum-of : ℕ → List ℕ → List Cell → ℕ → ℕ → ℕ → Type 0
+sum-of bodies sizes cells s n i =
+    Summed (behind bodies sizes cells s) (row-of held bodies sizes cells s)
+    (count-body (behind bodies sizes cells s) (row-of held bodies sizes cells s)) n i
+
+pred-suc : (s : ℕ) → 0 < s → s ≡ suc (s - 1)
+pred-suc s h = omega arith
+
+none-left : (s : ℕ) → s ≤ 0 → s ≡ 0
+none-left s h = omega arith
+
+abbrev Inv-loop2 : tie.InvT-loop2
+Inv-loop2 bodies sizes cells known s size n₀ i₀ n i = (i ≤ size) × (size ≡ length (row-of held bodies sizes cells s)) × (size ≡ min (getD sizes s 0) 32) × (n ≤ 129) × sum-of bodies sizes cells s n i
+
+abbrev μ-loop2 : tie.MeasureT-loop2
+μ-loop2 bodies sizes cells known s size n₀ i₀ n i = size - i
+
+abbrev Inv-loop : tie.InvT-loop
+Inv-loop bodies sizes cells known₀ s₀ known s = (s ≤ bodies) × (bodies ≤ 32) × (length sizes ≡ 32) × (length cells ≡ 1024) × (length known ≡ 32) × (length (bodies-of bodies sizes cells) ≡ bodies) × Known (bodies-of bodies sizes cells) s known
+
+abbrev μ-loop : tie.MeasureT-loop
+μ-loop bodies sizes cells known₀ s₀ known s = s
+
+loop-holds : tie.Need-loop-holds Inv-loop2 μ-loop2 Inv-loop μ-loop
+loop-holds c = let len : length (c .args .t2) ≡ 32 = search needs in (search needs, search needs, search needs, c .good .1 .1 .0 .1 .0 .1, refl, (rows-length 32 (take (c .args .bodies) (c .args .t2)) (instructions (c .args .t3)) ∙ length-take-le (c .args .bodies) (c .args .t2) (omega arith)), known-starts (bodies-of (c .args .bodies) (c .args .t2) (c .args .t3)) 32 (c .args .bodies) (omega (arith, (rows-length 32 (take (c .args .bodies) (c .args .t2)) (instructions (c .args .t3)) ∙ length-take-le (c .args .bodies) (c .args .t2) (omega arith)))))
+
+sub-s : tie.Need-sub-s Inv-loop2 μ-loop2 Inv-loop μ-loop
+sub-s c = search needs
+
+array-read-clamped : tie.Need-array-read-clamped Inv-loop2 μ-loop2 Inv-loop μ-loop
+array-read-clamped c = search needs
+
+clamped-requires : tie.Need-clamped-requires Inv-loop2 μ-loop2 Inv-loop μ-loop
+clamped-requires c κs = tt
+
+loop2-holds : tie.Need-loop2-holds Inv-loop2 μ-loop2 Inv-loop μ-loop
+loop2-holds c = (search needs, c .clamped .ensures ∙ sym (row-length held (c .before .before .before .args .bodies) (c .before .before .before .args .t2) (c .before .before .before .args .t3) (c .before .before .loop .s - 1) (omega arith) (omega arith) (c .before .before .loop .inv .3)), c .clamped .ensures, search needs, sum-starts (behind (c .before .before .before .args .bodies) (c .before .before .before .args .t2) (c .before .before .before .args .t3) (c .before .before .loop .s - 1)) (row-of held (c .before .before .before .args .bodies) (c .before .before .before .args .t2) (c .before .before .before .args .t3) (c .before .before .loop .s - 1)))
+
+mul-cell : tie.Need-mul-cell Inv-loop2 μ-loop2 Inv-loop μ-loop
+mul-cell c = search needs
+
+add-cell : tie.Need-add-cell Inv-loop2 μ-loop2 Inv-loop μ-loop
+add-cell c = search needs
+
+mul-cell-2 : tie.Need-mul-cell-2 Inv-loop2 μ-loop2 Inv-loop μ-loop
+mul-cell-2 c = search needs
+
+array-copy-out-cell : tie.Need-array-copy-out-cell Inv-loop2 μ-loop2 Inv-loop μ-loop
+array-copy-out-cell c = search needs
+
+added-requires : tie.Need-added-requires Inv-loop2 μ-loop2 Inv-loop μ-loop
+added-requires c κs = tt
+
+capped-sum-requires : tie.Need-capped-sum-requires Inv-loop2 μ-loop2 Inv-loop μ-loop
+capped-sum-requires c κs = tt
+
+add-i : tie.Need-add-i Inv-loop2 μ-loop2 Inv-loop μ-loop
+add-i c = search needs
+
+loop2-less : tie.Need-loop2-less Inv-loop2 μ-loop2 Inv-loop μ-loop
+loop2-less c = search needs
+
+loop2-again : tie.Need-loop2-again Inv-loop2 μ-loop2 Inv-loop μ-loop
+loop2-again c = let q : c .capped-sum .result ≡ capped (c .before .before .before .before .loop2 .n + adds (λ (a : ℕ). getD (c .before .before .before .before .before .before .before .loop .known) a 1) (held (getD (c .before .before .before .before .before .before .before .before .args .t3) (32 * (c .before .before .before .before .before .before .before .loop .s - 1) + c .before .before .before .before .loop2 .i) blank-cell))) = c .capped-sum .ensures ∙ ap (λ (v : ℕ). capped (c .before .before .before .before .loop2 .n + v)) (c .before .added .ensures) in (search needs, c .before .before .before .before .loop2 .inv .1, c .before .before .before .before .loop2 .inv .2, (rw q (omega arith)), subst (λ (m : ℕ). sum-of (c .before .before .before .before .before .before .before .before .args .bodies) (c .before .before .before .before .before .before .before .before .args .t2) (c .before .before .before .before .before .before .before .before .args .t3) (c .before .before .before .before .before .before .before .loop .s - 1) m (c .before .before .before .before .loop2 .i + 1)) (sym q) (sum-more (behind (c .before .before .before .before .before .before .before .before .args .bodies) (c .before .before .before .before .before .before .before .before .args .t2) (c .before .before .before .before .before .before .before .before .args .t3) (c .before .before .before .before .before .before .before .loop .s - 1)) (row-of held (c .before .before .before .before .before .before .before .before .args .bodies) (c .before .before .before .before .before .before .before .before .args .t2) (c .before .before .before .before .before .before .before .before .args .t3) (c .before .before .before .before .before .before .before .loop .s - 1)) (count-body (behind (c .before .before .before .before .before .before .before .before .args .bodies) (c .before .before .before .before .before .before .before .before .args .t2) (c .before .before .before .before .before .before .before .before .args .t3) (c .before .before .before .before .before .before .before .loop .s - 1)) (row-of held (c .before .before .before .before .before .before .before .before .args .bodies) (c .before .before .before .before .before .before .before .before .args .t2) (c .before .before .before .before .before .before .before .before .args .t3) (c .before .before .before .before .before .before .before .loop .s - 1))) (c .before .before .before .before .before .before .before .loop .known) (c .before .before .before .before .loop2 .n) (c .before .before .before .before .loop2 .i) (held (getD (c .before .before .before .before .before .before .before .before .args .t3) (32 * (c .before .before .before .before .before .before .before .loop .s - 1) + c .before .before .before .before .loop2 .i) blank-cell)) (subst (λ (m : ℕ). Known (bodies-of (c .before .before .before .before .before .before .before .before .args .bodies) (c .before .before .before .before .before .before .before .before .args .t2) (c .before .before .before .before .before .before .before .before .args .t3)) m (c .before .before .before .before .before .before .before .loop .known)) (pred-suc (c .before .before .before .before .before .before .before .loop .s) (c .before .before .before .before .before .before .loop-test .taken)) (c .before .before .before .before .before .before .before .loop .inv .6)) (omega arith) (row-at-place held (c .before .before .before .before .before .before .before .before .args .bodies) (c .before .before .before .before .before .before .before .before .args .t2) (c .before .before .before .before .before .before .before .before .args .t3) (c .before .before .before .before .before .before .before .loop .s - 1) (c .before .before .before .before .loop2 .i) blank-cell (omega arith) (omega arith) (omega arith)) (c .before .before .before .before .loop2 .inv .4)))
+
+array-write-known : tie.Need-array-write-known Inv-loop2 μ-loop2 Inv-loop μ-loop
+array-write-known c = search needs
+
+loop-less : tie.Need-loop-less Inv-loop2 μ-loop2 Inv-loop μ-loop
+loop-less c = search needs
+
+loop-again : tie.Need-loop-again Inv-loop2 μ-loop2 Inv-loop μ-loop
+loop-again c = (search needs, c .before .before .before .before .loop .inv .1, c .before .before .before .before .loop .inv .2, c .before .before .before .before .loop .inv .3, length-set (c .before .before .before .before .loop .known) (c .before .before .before .before .loop .s - 1) (c .before .loop2 .n) ∙ c .before .before .before .before .loop .inv .4, c .before .before .before .before .loop .inv .5, known-more (bodies-of (c .before .before .before .before .before .args .bodies) (c .before .before .before .before .before .args .t2) (c .before .before .before .before .before .args .t3)) (c .before .before .before .before .loop .s - 1) (c .before .loop2 .n) (c .before .before .before .before .loop .known) (omega arith) (omega arith) (subst (λ (m : ℕ). Known (bodies-of (c .before .before .before .before .before .args .bodies) (c .before .before .before .before .before .args .t2) (c .before .before .before .before .before .args .t3)) m (c .before .before .before .before .loop .known)) (pred-suc (c .before .before .before .before .loop .s) (c .before .before .before .loop-test .taken)) (c .before .before .before .before .loop .inv .6)) (sum-whole (behind (c .before .before .before .before .before .args .bodies) (c .before .before .before .before .before .args .t2) (c .before .before .before .before .before .args .t3) (c .before .before .before .before .loop .s - 1)) (row-of held (c .before .before .before .before .before .args .bodies) (c .before .before .before .before .before .args .t2) (c .before .before .before .before .before .args .t3) (c .before .before .before .before .loop .s - 1)) (count-body (behind (c .before .before .before .before .before .args .bodies) (c .before .before .before .before .before .args .t2) (c .before .before .before .before .before .args .t3) (c .before .before .before .before .loop .s - 1)) (row-of held (c .before .before .before .before .before .args .bodies) (c .before .before .before .before .before .args .t2) (c .before .before .before .before .before .args .t3) (c .before .before .before .before .loop .s - 1))) (c .before .loop2 .n) (c .before .loop2 .i) (c .before .loop2 .inv .3) (omega arith) (c .before .loop2 .inv .4)))
+
+returns : tie.Need-returns Inv-loop2 μ-loop2 Inv-loop μ-loop
+returns c = known-whole (bodies-of (c .before .before .args .bodies) (c .before .before .args .t2) (c .before .before .args .t3)) (c .before .loop .known) (subst (λ (m : ℕ). Known (bodies-of (c .before .before .args .bodies) (c .before .before .args .t2) (c .before .before .args .t3)) m (c .before .loop .known)) (none-left (c .before .loop .s) (c .loop-test .left)) (c .before .loop .inv .6))
+
+pub task-counts-spec : {M : Type 1} → statement M
+task-counts-spec =
+    tie.close
+    (tie.spec
+    Inv-loop2
+    μ-loop2
+    Inv-loop
+    μ-loop
+    loop-holds
+    sub-s
+    array-read-clamped
+    clamped-requires
+    loop2-holds
+    mul-cell
+    add-cell
+    mul-cell-2
+    array-copy-out-cell
+    added-requires
+    capped-sum-requires
+    add-i
+    loop2-less
+    loop2-again
+    array-write-known
+    loop-less
+    loop-again
+    returns)

@@ -1,0 +1,15 @@
+-- The tables as made are the blank ones.
+-- Assumes nothing.
+use Rattle.tasklist.specs.Tables.{blank-tables}
+use mathlib.Core.Path.{_≡_, refl, sym, ap, _∙_, subst}
+use Rattle.tasklist.proofs.reader.blank.Statement.{statement}
+use Rattle.tasklist.proofs.reader.blank.Tie as tie
+use Rattle.tasklist.proofs.reader.blank.Reads as reads
+use Rattle.tasklist.proofs.reader.blank.Lts as lts
+
+returns : tie.Need-returns
+unfolding blank-tables
+returns c = refl
+
+pub blank-spec : {M : Type 1} → statement M
+blank-spec = tie.close (tie.spec returns)

@@ -1,0 +1,50 @@
+-- The count decides, and the tables are the list's.
+-- Assumes nothing.
+use Rattle.tasklist.specs.Positions.{footprint-rows, body-rows}
+use Rattle.tasklist.specs.Answers.{ReadAs, refusal-number}
+use Rattle.tasklist.specs.Tables.{capped, list-of}
+use Rattle.tasklist.specs.TaskList.{task-count}
+use Rattle.tasklist.proofs.ReaderLaws.{sized-many, accepted-reading}
+use Rattle.tasklist.proofs.CountLaws.{getD-default}
+use lib.ListN.{length, drop, getD}
+use native.Mathlib.Omega.{arith}
+use mathlib.Core.Path.{_≡_, refl, sym, ap, _∙_, subst}
+use denote.Ref.{now}
+use borrow.Author.Needs.{needs}
+use Rattle.tasklist.proofs.reader.finished.Statement.{statement}
+use Rattle.tasklist.proofs.reader.finished.Tie as tie
+use Rattle.tasklist.proofs.reader.finished.Reads as reads
+use Rattle.tasklist.proofs.reader.finished.Lts as lts
+use Rattle.tasklist.proofs.counts.task_counts.Reads as task-counts-reads
+use Rattle.tasklist.proofs.reader.refusal.Reads as refusal-reads
+
+cast-task-counts : tie.Need-cast-task-counts
+cast-task-counts c = search needs
+
+task-counts-requires : tie.Need-task-counts-requires
+task-counts-requires c κs = search needs
+
+array-read-n : tie.Need-array-read-n
+array-read-n c = search needs
+
+refusal-requires : tie.Need-refusal-requires
+refusal-requires c κs = search needs
+
+returns : tie.Need-returns
+unfolding task-count
+returns c = let n : getD (c .before .before .task-counts .result) 0 0 ≡ capped (task-count (record { locations = c .before .before .before .before .before .before .before .before .args .head .locations; footprints = footprint-rows (c .before .before .before .before .before .before .before .before .args .head .footprints) (c .before .before .before .before .before .before .before .before .args .f); bodies = body-rows (c .before .before .before .before .before .before .before .before .args .head .bodies) (c .before .before .before .before .before .before .before .before .args .b) }) 0) = getD-default (c .before .before .task-counts .result) 0 0 1 (search needs) ∙ c .before .before .task-counts .ensures 0 in subst (λ d. ReadAs d (c .refusal .result)) (sym (sized-many (record { locations = c .before .before .before .before .before .before .before .before .args .head .locations; footprints = footprint-rows (c .before .before .before .before .before .before .before .before .args .head .footprints) (c .before .before .before .before .before .before .before .before .args .f); bodies = body-rows (c .before .before .before .before .before .before .before .before .args .head .bodies) (c .before .before .before .before .before .before .before .before .args .b) }) (omega (arith, n, c .before .if1 .taken)))) (c .refusal .ensures)
+
+returns-2 : tie.Need-returns-2
+unfolding task-count list-of
+returns-2 c = let n : getD (c .before .task-counts .result) 0 0 ≡ capped (task-count (record { locations = c .before .before .before .before .before .before .before .args .head .locations; footprints = footprint-rows (c .before .before .before .before .before .before .before .args .head .footprints) (c .before .before .before .before .before .before .before .args .f); bodies = body-rows (c .before .before .before .before .before .before .before .args .head .bodies) (c .before .before .before .before .before .before .before .args .b) }) 0) = getD-default (c .before .task-counts .result) 0 0 1 (search needs) ∙ c .before .task-counts .ensures 0 in accepted-reading (record { locations = c .before .before .before .before .before .before .before .args .head .locations; footprints = c .before .before .before .before .before .before .before .args .head .footprints; bodies = c .before .before .before .before .before .before .before .args .head .bodies; widths = c .before .before .before .before .before .before .before .args .f .widths; lines = c .before .before .before .before .before .before .before .args .f .lines; sizes = c .before .before .before .before .before .before .before .args .b .sizes; cells = c .before .before .before .before .before .before .before .args .b .cells; counts = c .before .task-counts .result }) (getD (c .before .task-counts .result) 0 0) n (c .if1 .left) (c .before .task-counts .ensures)
+
+pub finished-spec : {M : Type 1} → statement M
+finished-spec =
+    tie.close
+    (tie.spec
+    cast-task-counts
+    task-counts-requires
+    array-read-n
+    refusal-requires
+    returns
+    returns-2)

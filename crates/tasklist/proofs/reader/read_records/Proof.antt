@@ -1,0 +1,86 @@
+-- Footprints, bodies, what is left over, then the count: each return by the law of its stage.
+-- Assumes nothing.
+use Rattle.tasklist.specs.Positions.{ended, footprint-rows, body-rows}
+use Rattle.tasklist.specs.Answers.{ReadAs, refusal-number}
+use Rattle.tasklist.proofs.ReaderLaws.{finish-leftover, finish-footprints-bad, finish-bodies-bad, finish-whole}
+use Rattle.tasklist.proofs.FieldLaws.{told}
+use lib.ListN.{length-drop}
+use lib.ListN.{length, drop, getD}
+use native.Mathlib.Omega.{arith}
+use mathlib.Core.Path.{_≡_, refl, sym, ap, _∙_, subst}
+use denote.Ref.{now}
+use borrow.Author.Needs.{needs}
+use Rattle.tasklist.proofs.reader.read_records.Statement.{statement}
+use Rattle.tasklist.proofs.reader.read_records.Tie as tie
+use Rattle.tasklist.proofs.reader.read_records.Reads as reads
+use Rattle.tasklist.proofs.reader.read_records.Lts as lts
+use Rattle.tasklist.proofs.fields.left.Reads as left-reads
+use Rattle.tasklist.proofs.reader.finished.Reads as finished-reads
+use Rattle.tasklist.proofs.reader.read_bodies.Reads as read-bodies-reads
+use Rattle.tasklist.proofs.reader.read_footprints.Reads as read-footprints-reads
+use Rattle.tasklist.proofs.reader.refusal.Reads as refusal-reads
+
+read-footprints-requires : tie.Need-read-footprints-requires
+read-footprints-requires c κs = search needs
+
+enum-known-behind : tie.Need-enum-known-behind
+enum-known-behind c = search needs
+
+refusal-requires : tie.Need-refusal-requires
+refusal-requires c κs = search needs
+
+enum-known-behind-2 : tie.Need-enum-known-behind-2
+enum-known-behind-2 c = search needs
+
+read-bodies-requires : tie.Need-read-bodies-requires
+read-bodies-requires c κs = search needs
+
+enum-known-end : tie.Need-enum-known-end
+enum-known-end c = search needs
+
+refusal-requires-2 : tie.Need-refusal-requires-2
+refusal-requires-2 c κs = search needs
+
+enum-known-end-2 : tie.Need-enum-known-end-2
+enum-known-end-2 c = search needs
+
+left-requires : tie.Need-left-requires
+left-requires c κs = search needs
+
+refusal-requires-3 : tie.Need-refusal-requires-3
+refusal-requires-3 c κs = search needs
+
+returns : tie.Need-returns
+returns c = subst (λ d. ReadAs d (c .refusal3 .result)) (sym (finish-leftover (c .before .before .before .before .before .before .before .before .before .before .before .before .args .head) (drop (c .before .before .before .before .before .before .before .before .before .before .before .before .args .at) (now (c .before .before .before .before .before .before .before .before .before .before .before .before .args .bytes))) (footprint-rows (c .before .before .before .before .before .before .before .before .before .before .before .before .args .head .footprints) (c .before .before .before .before .before .before .before .before .before .before .read-footprints .result)) (drop (c .before .before .before .before .before .before .before .before .behind2 .given .0 .0) (now (c .before .before .before .before .before .before .before .before .before .before .before .before .args .bytes))) (told (λ n. ended n (footprint-rows (c .before .before .before .before .before .before .before .before .before .before .before .before .args .head .footprints) (c .before .before .before .before .before .before .before .before .before .before .read-footprints .result)) (now (c .before .before .before .before .before .before .before .before .before .before .before .before .args .bytes))) (c .before .before .before .before .before .before .before .before .before .before .read-footprints .ensures) (c .before .before .before .before .before .before .before .before .behind2 .given .1)) (body-rows (c .before .before .before .before .before .before .before .before .before .before .before .before .args .head .bodies) (c .before .before .before .before .before .before .read-bodies .result)) (drop (c .before .before .before .before .end2 .given .0 .0) (now (c .before .before .before .before .before .before .before .before .before .before .before .before .args .bytes))) (told (λ n. ended n (body-rows (c .before .before .before .before .before .before .before .before .before .before .before .before .args .head .bodies) (c .before .before .before .before .before .before .read-bodies .result)) (now (c .before .before .before .before .before .before .before .before .before .before .before .before .args .bytes))) (c .before .before .before .before .before .before .read-bodies .ensures) (c .before .before .before .before .end2 .given .1)) (omega (arith, c .before .before .left .ensures, c .before .if1 .taken, length-drop (c .before .before .before .before .end2 .given .0 .0) (now (c .before .before .before .before .before .before .before .before .before .before .before .before .args .bytes)))))) (c .refusal3 .ensures)
+
+finished-requires : tie.Need-finished-requires
+finished-requires c κs = search needs
+
+returns-2 : tie.Need-returns-2
+returns-2 c = subst (λ d. ReadAs d (c .refusal .result)) (sym (finish-footprints-bad (c .before .before .before .before .before .before .args .head) (drop (c .before .before .before .before .before .before .args .at) (now (c .before .before .before .before .before .before .args .bytes))) (refusal-number (c .before .before .behind .given .0 .0)) (told (λ n. ended n (footprint-rows (c .before .before .before .before .before .before .args .head .footprints) (c .before .before .before .before .read-footprints .result)) (now (c .before .before .before .before .before .before .args .bytes))) (c .before .before .before .before .read-footprints .ensures) (c .before .before .behind .given .1)))) (c .refusal .ensures)
+
+returns-3 : tie.Need-returns-3
+returns-3 c = subst (λ d. ReadAs d (c .refusal2 .result)) (sym (finish-bodies-bad (c .before .before .before .before .before .before .before .before .before .before .args .head) (drop (c .before .before .before .before .before .before .before .before .before .before .args .at) (now (c .before .before .before .before .before .before .before .before .before .before .args .bytes))) (footprint-rows (c .before .before .before .before .before .before .before .before .before .before .args .head .footprints) (c .before .before .before .before .before .before .before .before .read-footprints .result)) (drop (c .before .before .before .before .before .before .behind2 .given .0 .0) (now (c .before .before .before .before .before .before .before .before .before .before .args .bytes))) (told (λ n. ended n (footprint-rows (c .before .before .before .before .before .before .before .before .before .before .args .head .footprints) (c .before .before .before .before .before .before .before .before .read-footprints .result)) (now (c .before .before .before .before .before .before .before .before .before .before .args .bytes))) (c .before .before .before .before .before .before .before .before .read-footprints .ensures) (c .before .before .before .before .before .before .behind2 .given .1)) (refusal-number (c .before .before .end .given .0 .0)) (told (λ n. ended n (body-rows (c .before .before .before .before .before .before .before .before .before .before .args .head .bodies) (c .before .before .before .before .read-bodies .result)) (now (c .before .before .before .before .before .before .before .before .before .before .args .bytes))) (c .before .before .before .before .read-bodies .ensures) (c .before .before .end .given .1)))) (c .refusal2 .ensures)
+
+returns-4 : tie.Need-returns-4
+returns-4 c = subst (λ d. ReadAs d (c .finished .result)) (sym (finish-whole (c .before .before .before .before .before .before .before .before .before .before .before .before .args .head) (drop (c .before .before .before .before .before .before .before .before .before .before .before .before .args .at) (now (c .before .before .before .before .before .before .before .before .before .before .before .before .args .bytes))) (footprint-rows (c .before .before .before .before .before .before .before .before .before .before .before .before .args .head .footprints) (c .before .before .before .before .before .before .before .before .before .before .read-footprints .result)) (drop (c .before .before .before .before .before .before .before .before .behind2 .given .0 .0) (now (c .before .before .before .before .before .before .before .before .before .before .before .before .args .bytes))) (told (λ n. ended n (footprint-rows (c .before .before .before .before .before .before .before .before .before .before .before .before .args .head .footprints) (c .before .before .before .before .before .before .before .before .before .before .read-footprints .result)) (now (c .before .before .before .before .before .before .before .before .before .before .before .before .args .bytes))) (c .before .before .before .before .before .before .before .before .before .before .read-footprints .ensures) (c .before .before .before .before .before .before .before .before .behind2 .given .1)) (body-rows (c .before .before .before .before .before .before .before .before .before .before .before .before .args .head .bodies) (c .before .before .before .before .before .before .read-bodies .result)) (drop (c .before .before .before .before .end2 .given .0 .0) (now (c .before .before .before .before .before .before .before .before .before .before .before .before .args .bytes))) (told (λ n. ended n (body-rows (c .before .before .before .before .before .before .before .before .before .before .before .before .args .head .bodies) (c .before .before .before .before .before .before .read-bodies .result)) (now (c .before .before .before .before .before .before .before .before .before .before .before .before .args .bytes))) (c .before .before .before .before .before .before .read-bodies .ensures) (c .before .before .before .before .end2 .given .1)) (omega (arith, c .before .before .left .ensures, c .before .if1 .left, length-drop (c .before .before .before .before .end2 .given .0 .0) (now (c .before .before .before .before .before .before .before .before .before .before .before .before .args .bytes)))))) (c .finished .ensures)
+
+pub read-records-spec : {M : Type 1} → statement M
+read-records-spec =
+    tie.close
+    (tie.spec
+    read-footprints-requires
+    enum-known-behind
+    refusal-requires
+    enum-known-behind-2
+    read-bodies-requires
+    enum-known-end
+    refusal-requires-2
+    enum-known-end-2
+    left-requires
+    refusal-requires-3
+    returns
+    finished-requires
+    returns-2
+    returns-3
+    returns-4)

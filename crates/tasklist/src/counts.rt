@@ -1,0 +1,95 @@
+// Task counts, from the last body to the first, each capped at 129.
+ghost use Prim.Native.Nat.{ℕ, _+_, _≤_, min};
+ghost use mathlib.Core.Path.{_≡_};
+ghost use lib.ListN.{getD, take};
+ghost use Rattle.tasklist.specs.TaskList.{adds, counts};
+ghost use Rattle.tasklist.specs.Tables.{rows, instructions, capped};
+use crate::Cell;
+use crate::Instruction;
+
+// `n`, or `most` where it is above.
+pub fn clamped(n: u8, most: usize) -> usize
+    ensures { λ r. ⌜ r ≡ min n most ⌝ }
+{
+    let wide = n as usize;
+    if wide < most { wide } else { most }
+}
+
+// What one instruction adds to its body's count.
+fn added(instruction: Instruction, known: [u8; 32]) -> u8
+    ensures { λ r. ⌜ r ≡ adds (λ a. getD known a 1) instruction ⌝ }
+{
+    match instruction {
+        Instruction::Const {
+            target: _,
+            value: _,
+        } => 0,
+        Instruction::Add {
+            target: _,
+            left: _,
+            right: _,
+        } => 0,
+        Instruction::Sub {
+            target: _,
+            left: _,
+            right: _,
+        } => 0,
+        Instruction::Less {
+            target: _,
+            left: _,
+            right: _,
+        } => 0,
+        Instruction::Load {
+            target: _,
+            place: _,
+        } => 0,
+        Instruction::Store {
+            place: _,
+            source: _,
+        } => 0,
+        Instruction::Skip { test: _, length: _ } => 0,
+        Instruction::Spawn { body, footprint: _ } => count_at(known, body as usize),
+        Instruction::Wait { place: _ } => 0,
+    }
+}
+
+// The count of body `s`, 1 where there is none.
+pub fn count_at(known: [u8; 32], s: usize) -> u8
+    ensures { λ r. ⌜ r ≡ getD known s 1 ⌝ }
+{
+    if s < 32 { known[s] } else { 1 }
+}
+
+// The sum, or 129 where it is above.
+fn capped_sum(a: u8, b: u8) -> u8
+    ensures { λ r. ⌜ r ≡ capped (a + b) ⌝ }
+{
+    if a < 129 {
+        if b <= 129 - a { a + b } else { 129 }
+    } else {
+        129
+    }
+}
+
+// The counts of all bodies, 1 where there is none.
+pub fn task_counts(bodies: usize, sizes: [u8; 32], cells: [Cell; 1024]) -> [u8; 32]
+    requires { ⌜ bodies ≤ 32 ⌝ }
+    ensures { λ r. ⌜ ((s : ℕ) → getD r s 1 ≡ capped (getD (counts 0 (rows 32 (take bodies sizes) (instructions cells))) s 1)) ⌝ }
+{
+    let mut known = [1u8; 32];
+    let mut s = bodies;
+    while 0 < s {
+        s -= 1;
+        let size = clamped(sizes[s], 32);
+        let mut n: u8 = 1;
+        let mut i = 0;
+        while i < size {
+            let cell = cells[32 * s + i];
+            let x = cell.instruction;
+            n = capped_sum(n, added(x, known));
+            i += 1;
+        }
+        known[s] = n;
+    }
+    known
+}

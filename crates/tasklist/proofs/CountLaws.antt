@@ -1,47 +1,23 @@
 -- Laws of task counts: the table of capped counts that is filled from the last body to the first.
 use Prim.Native.Nat.{ℕ, zero, suc, _+_, _-_, _*_, _≤_, _<_, min}
 use mathlib.Core.Path.{_≡_, refl, sym, ap, _∙_, fun-ext}
-use mathlib.Core.List.{List, [], _∷_, map}
+use mathlib.Core.List.{List, [], _∷_}
 use mathlib.Core.Bool.{Bool, true, false, cond}
 use native.Mathlib.Omega.{arith}
 use native.Mathlib.Numerals.{add-one}
-use native.Mathlib.Nat.{mul-zero, mul-suc}
-use lib.ListN.{length, take, drop, getD, set, replicate, drop-of-length-le, length-drop, length-map, List·getD-map}
-use lib.Seq.{drop-cons, drop-drop, getD-set-same, getD-set-other, getD-take, getD-drop, length-take-le}
+use lib.ListN.{length, drop, getD, set, replicate, drop-of-length-le}
+use lib.Seq.{drop-cons, getD-set-same, getD-set-other}
 use lib.Dec.{leb, eqb}
 use borrow.Author.Tests.{le-leb, lt-leb, leb-true, leb-false, eqb-true, eqb-false}
 use Rattle.tasklist.specs.declared.Instruction.{Instruction}
 use Rattle.tasklist.specs.declared.Instruction.the-variants.{Const, Add, Sub, Less, Load, Store, Skip, Spawn, Wait}
 use Rattle.tasklist.specs.TaskList.{total, adds, count-body, count-from, counts, blank-instruction}
-use Rattle.tasklist.specs.Tables.{rows, capped}
-
--- within a list the default does not matter
-pub getD-default : {A : Type 0} (l : List A) (i : ℕ) (d e : A) → i < length l → getD l i d ≡ getD l i e
-getD-default [] i d e h = let z : ⊥ = omega arith in absurd z
-getD-default (x ∷ l) zero d e h = refl
-getD-default (x ∷ l) (suc i) d e h = getD-default l i d e (omega arith)
+use Rattle.tasklist.specs.Tables.{capped}
 
 getD-replicate-self : {A : Type 0} (n i : ℕ) (a : A) → getD (replicate n a) i a ≡ a
 getD-replicate-self zero i a = refl
 getD-replicate-self (suc n) zero a = refl
 getD-replicate-self (suc n) (suc i) a = getD-replicate-self n i a
-
-pub rows-length : {A : Type 0} (w : ℕ) (ns : List ℕ) (xs : List A) → length (rows w ns xs) ≡ length ns
-unfolding rows
-rows-length w [] xs = refl
-rows-length w (n ∷ ns) xs = ap suc (rows-length w ns (drop w xs))
-
--- a row by its number; where there is none it is empty
-pub rows-at : {A : Type 0} (w : ℕ) (ns : List ℕ) (xs : List A) (s : ℕ) → getD (rows w ns xs) s [] ≡ take (min (getD ns s 0) w) (drop (w * s) xs)
-unfolding rows
-rows-at w [] xs s =
-    let q : 0 ≡ min 0 w = omega arith in
-    ap (λ (m : ℕ). take m (drop (w * s) xs)) q
-rows-at w (n ∷ ns) xs zero = rw (mul-zero w)
-rows-at w (n ∷ ns) xs (suc s) =
-    let q : w + w * s ≡ w * suc s = omega (arith, mul-suc w s) in
-    rows-at w ns (drop w xs) s ∙
-    ap (take (min (getD ns s 0) w)) (drop-drop (w * s) w xs ∙ ap (λ (m : ℕ). drop m xs) q)
 
 pub adds-same : (f g : ℕ → ℕ) (x : Instruction) → ((a : ℕ) → f a ≡ g a) → adds f x ≡ adds g x
 adds-same f g x e = ap (λ (h : ℕ → ℕ). adds h x) (fun-ext e)
@@ -162,30 +138,3 @@ module _ (bs : List (List Instruction)) where
   known-whole table k s =
       let q : s - 0 ≡ s = omega arith in
       k s ∙ ap capped (rw (le-leb 0 s (omega arith), q) refl)
-
--- body s of the tables, in the code's terms
-module _ {C : Type 0} (f : C → Instruction) (bodies : ℕ) (sizes : List ℕ) (cells : List C) where
-  abbrev pub row-of : ℕ → List Instruction
-  row-of s = getD (rows 32 (take bodies sizes) (map f cells)) s []
-
-  abbrev size-in : ℕ → ℕ
-  size-in s = min (getD sizes s 0) 32
-
-  row-is : (s : ℕ) → s < bodies → row-of s ≡ take (size-in s) (drop (32 * s) (map f cells))
-  row-is s h =
-      rows-at 32 (take bodies sizes) (map f cells) s ∙
-      ap (λ (n : ℕ). take (min n 32) (drop (32 * s) (map f cells))) (getD-take bodies sizes s 0 h)
-
-  pub row-length : (s : ℕ) → s < bodies → s < 32 → length cells ≡ 1024 → length (row-of s) ≡ size-in s
-  row-length s h l e =
-      ap length (row-is s h) ∙
-      length-take-le (size-in s) (drop (32 * s) (map f cells)) (omega (arith, length-drop (32 * s) (map f cells), length-map cells f))
-
-  pub row-at-place : (s i : ℕ) (d : C) → s < bodies → i < size-in s → 32 * s + i < length cells
-      → getD (row-of s) i blank-instruction ≡ f (getD cells (32 * s + i) d)
-  row-at-place s i d h l b =
-      ap (λ (r : List Instruction). getD r i blank-instruction) (row-is s h) ∙
-      getD-take (size-in s) (drop (32 * s) (map f cells)) i blank-instruction l ∙
-      getD-drop (32 * s) (map f cells) i blank-instruction ∙
-      getD-default (map f cells) (32 * s + i) blank-instruction (f d) (omega (arith, length-map cells f)) ∙
-      List·getD-map f cells (32 * s + i) d

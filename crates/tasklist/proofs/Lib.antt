@@ -3,6 +3,13 @@ pub mod Cases
 pub mod FieldLaws
 pub mod InstructionLaws
 pub mod RowLaws
+pub mod WriterLaws
+pub mod PlaceLaws
 pub mod ReaderLaws
 pub mod CountLaws
 pub mod TakenLaws
+pub mod ChainLaws
+pub mod Guarantees
+pub mod RoundTrip
+pub mod Longest
+pub mod Complete

@@ -160,3 +160,15 @@ mod fields;
 mod instructions;
 mod reader;
 mod writer;
+
+pub use access::body_count;
+pub use access::body_size;
+pub use access::footprint_count;
+pub use access::footprint_size;
+pub use access::instruction_at;
+pub use access::line_at;
+pub use access::task_count;
+pub use reader::check;
+pub use reader::read;
+pub use writer::encoded_length;
+pub use writer::write;

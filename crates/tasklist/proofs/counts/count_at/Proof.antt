@@ -1,7 +1,7 @@
 -- Within the array its element, behind it the default.
 -- Assumes nothing.
 use lib.ListN.{List·getD-eq-default}
-use Rattle.tasklist.proofs.CountLaws.{getD-default}
+use Rattle.tasklist.proofs.PlaceLaws.{getD-default}
 use native.Mathlib.Omega.{arith}
 use mathlib.Core.Path.{_≡_, refl, sym, ap, _∙_}
 use borrow.Author.Needs.{needs}

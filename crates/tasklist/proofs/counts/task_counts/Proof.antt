@@ -1,17 +1,18 @@
 -- From the last body to the first: the table has the counts of the bodies behind (CountLaws).
 -- Assumes nothing.
-use Rattle.tasklist.specs.TaskList.{adds, count-body}
-use lib.ListN.{length, take, drop, getD, set, length-set, length-map}
-use mathlib.Core.Path.{_≡_, refl, sym, ap, _∙_, subst}
-use Rattle.tasklist.proofs.CountLaws.{rows-length, Summed, sum-more, sum-whole, sum-starts, known-from, Known, known-starts, known-more, known-whole, row-of, row-length, row-at-place}
+use Rattle.tasklist.proofs.PlaceLaws.{rows-length, row-of, row-length, row-place, getD-held}
+use Rattle.tasklist.proofs.CountLaws.{Summed, sum-more, sum-whole, sum-starts, known-from, Known, known-starts, known-more, known-whole}
 use Rattle.tasklist.specs.Tables.{rows, instructions, capped, blank-cell}
+use Rattle.tasklist.specs.TaskList.{adds, count-body, blank-instruction}
 use Rattle.tasklist.specs.declared.Cell.{Cell}
 use Rattle.tasklist.specs.declared.Instruction.{Instruction}
 use lib.Seq.{length-take-le}
+use lib.ListN.{length, take, drop, getD, set, length-set, length-map}
 use mathlib.Core.List.{List, [], _∷_}
 use Prim.Native.Nat.{ℕ, suc, _+_, _-_, _*_, _≤_, _<_, min}
 use borrow.Author.Needs.{needs}
 use native.Mathlib.Omega.{arith}
+use mathlib.Core.Path.{_≡_, refl, sym, ap, _∙_, subst}
 use Rattle.tasklist.proofs.counts.task_counts.Statement.{statement}
 use Rattle.tasklist.proofs.counts.task_counts.Tie as tie
 use Rattle.tasklist.proofs.counts.task_counts.Reads as reads
@@ -32,8 +33,8 @@ behind bodies sizes cells s = known-from (bodies-of bodies sizes cells) (suc s)
 
 abbrev sum-of : ℕ → List ℕ → List Cell → ℕ → ℕ → ℕ → Type 0
 sum-of bodies sizes cells s n i =
-    Summed (behind bodies sizes cells s) (row-of held bodies sizes cells s)
-    (count-body (behind bodies sizes cells s) (row-of held bodies sizes cells s)) n i
+    Summed (behind bodies sizes cells s) (row-of 32 bodies sizes (instructions cells) s)
+    (count-body (behind bodies sizes cells s) (row-of 32 bodies sizes (instructions cells) s)) n i
 
 pred-suc : (s : ℕ) → 0 < s → s ≡ suc (s - 1)
 pred-suc s h = omega arith
@@ -42,7 +43,7 @@ none-left : (s : ℕ) → s ≤ 0 → s ≡ 0
 none-left s h = omega arith
 
 abbrev Inv-loop2 : tie.InvT-loop2
-Inv-loop2 bodies sizes cells known s size n₀ i₀ n i = (i ≤ size) × (size ≡ length (row-of held bodies sizes cells s)) × (size ≡ min (getD sizes s 0) 32) × (n ≤ 129) × sum-of bodies sizes cells s n i
+Inv-loop2 bodies sizes cells known s size n₀ i₀ n i = (i ≤ size) × (size ≡ length (row-of 32 bodies sizes (instructions cells) s)) × (size ≡ min (getD sizes s 0) 32) × (n ≤ 129) × sum-of bodies sizes cells s n i
 
 abbrev μ-loop2 : tie.MeasureT-loop2
 μ-loop2 bodies sizes cells known s size n₀ i₀ n i = size - i
@@ -66,7 +67,7 @@ clamped-requires : tie.Need-clamped-requires Inv-loop2 μ-loop2 Inv-loop μ-loop
 clamped-requires c κs = tt
 
 loop2-holds : tie.Need-loop2-holds Inv-loop2 μ-loop2 Inv-loop μ-loop
-loop2-holds c = (search needs, c .clamped .ensures ∙ sym (row-length held (c .before .before .before .args .bodies) (c .before .before .before .args .t2) (c .before .before .before .args .t3) (c .before .before .loop .s - 1) (omega arith) (omega arith) (c .before .before .loop .inv .3)), c .clamped .ensures, search needs, sum-starts (behind (c .before .before .before .args .bodies) (c .before .before .before .args .t2) (c .before .before .before .args .t3) (c .before .before .loop .s - 1)) (row-of held (c .before .before .before .args .bodies) (c .before .before .before .args .t2) (c .before .before .before .args .t3) (c .before .before .loop .s - 1)))
+loop2-holds c = (search needs, c .clamped .ensures ∙ sym (row-length 32 (c .before .before .before .args .bodies) (c .before .before .before .args .t2) (instructions (c .before .before .before .args .t3)) (c .before .before .loop .s - 1) (omega arith) (omega (arith, length-map (c .before .before .before .args .t3) held))), c .clamped .ensures, search needs, sum-starts (behind (c .before .before .before .args .bodies) (c .before .before .before .args .t2) (c .before .before .before .args .t3) (c .before .before .loop .s - 1)) (row-of 32 (c .before .before .before .args .bodies) (c .before .before .before .args .t2) (instructions (c .before .before .before .args .t3)) (c .before .before .loop .s - 1)))
 
 mul-cell : tie.Need-mul-cell Inv-loop2 μ-loop2 Inv-loop μ-loop
 mul-cell c = search needs
@@ -93,7 +94,7 @@ loop2-less : tie.Need-loop2-less Inv-loop2 μ-loop2 Inv-loop μ-loop
 loop2-less c = search needs
 
 loop2-again : tie.Need-loop2-again Inv-loop2 μ-loop2 Inv-loop μ-loop
-loop2-again c = let q : c .capped-sum .result ≡ capped (c .before .before .before .before .loop2 .n + adds (λ (a : ℕ). getD (c .before .before .before .before .before .before .before .loop .known) a 1) (held (getD (c .before .before .before .before .before .before .before .before .args .t3) (32 * (c .before .before .before .before .before .before .before .loop .s - 1) + c .before .before .before .before .loop2 .i) blank-cell))) = c .capped-sum .ensures ∙ ap (λ (v : ℕ). capped (c .before .before .before .before .loop2 .n + v)) (c .before .added .ensures) in (search needs, c .before .before .before .before .loop2 .inv .1, c .before .before .before .before .loop2 .inv .2, (rw q (omega arith)), subst (λ (m : ℕ). sum-of (c .before .before .before .before .before .before .before .before .args .bodies) (c .before .before .before .before .before .before .before .before .args .t2) (c .before .before .before .before .before .before .before .before .args .t3) (c .before .before .before .before .before .before .before .loop .s - 1) m (c .before .before .before .before .loop2 .i + 1)) (sym q) (sum-more (behind (c .before .before .before .before .before .before .before .before .args .bodies) (c .before .before .before .before .before .before .before .before .args .t2) (c .before .before .before .before .before .before .before .before .args .t3) (c .before .before .before .before .before .before .before .loop .s - 1)) (row-of held (c .before .before .before .before .before .before .before .before .args .bodies) (c .before .before .before .before .before .before .before .before .args .t2) (c .before .before .before .before .before .before .before .before .args .t3) (c .before .before .before .before .before .before .before .loop .s - 1)) (count-body (behind (c .before .before .before .before .before .before .before .before .args .bodies) (c .before .before .before .before .before .before .before .before .args .t2) (c .before .before .before .before .before .before .before .before .args .t3) (c .before .before .before .before .before .before .before .loop .s - 1)) (row-of held (c .before .before .before .before .before .before .before .before .args .bodies) (c .before .before .before .before .before .before .before .before .args .t2) (c .before .before .before .before .before .before .before .before .args .t3) (c .before .before .before .before .before .before .before .loop .s - 1))) (c .before .before .before .before .before .before .before .loop .known) (c .before .before .before .before .loop2 .n) (c .before .before .before .before .loop2 .i) (held (getD (c .before .before .before .before .before .before .before .before .args .t3) (32 * (c .before .before .before .before .before .before .before .loop .s - 1) + c .before .before .before .before .loop2 .i) blank-cell)) (subst (λ (m : ℕ). Known (bodies-of (c .before .before .before .before .before .before .before .before .args .bodies) (c .before .before .before .before .before .before .before .before .args .t2) (c .before .before .before .before .before .before .before .before .args .t3)) m (c .before .before .before .before .before .before .before .loop .known)) (pred-suc (c .before .before .before .before .before .before .before .loop .s) (c .before .before .before .before .before .before .loop-test .taken)) (c .before .before .before .before .before .before .before .loop .inv .6)) (omega arith) (row-at-place held (c .before .before .before .before .before .before .before .before .args .bodies) (c .before .before .before .before .before .before .before .before .args .t2) (c .before .before .before .before .before .before .before .before .args .t3) (c .before .before .before .before .before .before .before .loop .s - 1) (c .before .before .before .before .loop2 .i) blank-cell (omega arith) (omega arith) (omega arith)) (c .before .before .before .before .loop2 .inv .4)))
+loop2-again c = let q : c .capped-sum .result ≡ capped (c .before .before .before .before .loop2 .n + adds (λ (a : ℕ). getD (c .before .before .before .before .before .before .before .loop .known) a 1) (held (getD (c .before .before .before .before .before .before .before .before .args .t3) (32 * (c .before .before .before .before .before .before .before .loop .s - 1) + c .before .before .before .before .loop2 .i) blank-cell))) = c .capped-sum .ensures ∙ ap (λ (v : ℕ). capped (c .before .before .before .before .loop2 .n + v)) (c .before .added .ensures) in (search needs, c .before .before .before .before .loop2 .inv .1, c .before .before .before .before .loop2 .inv .2, (rw q (omega arith)), subst (λ (m : ℕ). sum-of (c .before .before .before .before .before .before .before .before .args .bodies) (c .before .before .before .before .before .before .before .before .args .t2) (c .before .before .before .before .before .before .before .before .args .t3) (c .before .before .before .before .before .before .before .loop .s - 1) m (c .before .before .before .before .loop2 .i + 1)) (sym q) (sum-more (behind (c .before .before .before .before .before .before .before .before .args .bodies) (c .before .before .before .before .before .before .before .before .args .t2) (c .before .before .before .before .before .before .before .before .args .t3) (c .before .before .before .before .before .before .before .loop .s - 1)) (row-of 32 (c .before .before .before .before .before .before .before .before .args .bodies) (c .before .before .before .before .before .before .before .before .args .t2) (instructions (c .before .before .before .before .before .before .before .before .args .t3)) (c .before .before .before .before .before .before .before .loop .s - 1)) (count-body (behind (c .before .before .before .before .before .before .before .before .args .bodies) (c .before .before .before .before .before .before .before .before .args .t2) (c .before .before .before .before .before .before .before .before .args .t3) (c .before .before .before .before .before .before .before .loop .s - 1)) (row-of 32 (c .before .before .before .before .before .before .before .before .args .bodies) (c .before .before .before .before .before .before .before .before .args .t2) (instructions (c .before .before .before .before .before .before .before .before .args .t3)) (c .before .before .before .before .before .before .before .loop .s - 1))) (c .before .before .before .before .before .before .before .loop .known) (c .before .before .before .before .loop2 .n) (c .before .before .before .before .loop2 .i) (held (getD (c .before .before .before .before .before .before .before .before .args .t3) (32 * (c .before .before .before .before .before .before .before .loop .s - 1) + c .before .before .before .before .loop2 .i) blank-cell)) (subst (λ (m : ℕ). Known (bodies-of (c .before .before .before .before .before .before .before .before .args .bodies) (c .before .before .before .before .before .before .before .before .args .t2) (c .before .before .before .before .before .before .before .before .args .t3)) m (c .before .before .before .before .before .before .before .loop .known)) (pred-suc (c .before .before .before .before .before .before .before .loop .s) (c .before .before .before .before .before .before .loop-test .taken)) (c .before .before .before .before .before .before .before .loop .inv .6)) (omega arith) (row-place 32 (c .before .before .before .before .before .before .before .before .args .bodies) (c .before .before .before .before .before .before .before .before .args .t2) (instructions (c .before .before .before .before .before .before .before .before .args .t3)) (c .before .before .before .before .before .before .before .loop .s - 1) (c .before .before .before .before .loop2 .i) blank-instruction blank-instruction (omega arith) (omega arith) (omega (arith, length-map (c .before .before .before .before .before .before .before .before .args .t3) held)) ∙ getD-held held (c .before .before .before .before .before .before .before .before .args .t3) (32 * (c .before .before .before .before .before .before .before .loop .s - 1) + c .before .before .before .before .loop2 .i) blank-cell blank-instruction (omega arith)) (c .before .before .before .before .loop2 .inv .4)))
 
 array-write-known : tie.Need-array-write-known Inv-loop2 μ-loop2 Inv-loop μ-loop
 array-write-known c = search needs
@@ -102,7 +103,7 @@ loop-less : tie.Need-loop-less Inv-loop2 μ-loop2 Inv-loop μ-loop
 loop-less c = search needs
 
 loop-again : tie.Need-loop-again Inv-loop2 μ-loop2 Inv-loop μ-loop
-loop-again c = (search needs, c .before .before .before .before .loop .inv .1, c .before .before .before .before .loop .inv .2, c .before .before .before .before .loop .inv .3, length-set (c .before .before .before .before .loop .known) (c .before .before .before .before .loop .s - 1) (c .before .loop2 .n) ∙ c .before .before .before .before .loop .inv .4, c .before .before .before .before .loop .inv .5, known-more (bodies-of (c .before .before .before .before .before .args .bodies) (c .before .before .before .before .before .args .t2) (c .before .before .before .before .before .args .t3)) (c .before .before .before .before .loop .s - 1) (c .before .loop2 .n) (c .before .before .before .before .loop .known) (omega arith) (omega arith) (subst (λ (m : ℕ). Known (bodies-of (c .before .before .before .before .before .args .bodies) (c .before .before .before .before .before .args .t2) (c .before .before .before .before .before .args .t3)) m (c .before .before .before .before .loop .known)) (pred-suc (c .before .before .before .before .loop .s) (c .before .before .before .loop-test .taken)) (c .before .before .before .before .loop .inv .6)) (sum-whole (behind (c .before .before .before .before .before .args .bodies) (c .before .before .before .before .before .args .t2) (c .before .before .before .before .before .args .t3) (c .before .before .before .before .loop .s - 1)) (row-of held (c .before .before .before .before .before .args .bodies) (c .before .before .before .before .before .args .t2) (c .before .before .before .before .before .args .t3) (c .before .before .before .before .loop .s - 1)) (count-body (behind (c .before .before .before .before .before .args .bodies) (c .before .before .before .before .before .args .t2) (c .before .before .before .before .before .args .t3) (c .before .before .before .before .loop .s - 1)) (row-of held (c .before .before .before .before .before .args .bodies) (c .before .before .before .before .before .args .t2) (c .before .before .before .before .before .args .t3) (c .before .before .before .before .loop .s - 1))) (c .before .loop2 .n) (c .before .loop2 .i) (c .before .loop2 .inv .3) (omega arith) (c .before .loop2 .inv .4)))
+loop-again c = (search needs, c .before .before .before .before .loop .inv .1, c .before .before .before .before .loop .inv .2, c .before .before .before .before .loop .inv .3, length-set (c .before .before .before .before .loop .known) (c .before .before .before .before .loop .s - 1) (c .before .loop2 .n) ∙ c .before .before .before .before .loop .inv .4, c .before .before .before .before .loop .inv .5, known-more (bodies-of (c .before .before .before .before .before .args .bodies) (c .before .before .before .before .before .args .t2) (c .before .before .before .before .before .args .t3)) (c .before .before .before .before .loop .s - 1) (c .before .loop2 .n) (c .before .before .before .before .loop .known) (omega arith) (omega arith) (subst (λ (m : ℕ). Known (bodies-of (c .before .before .before .before .before .args .bodies) (c .before .before .before .before .before .args .t2) (c .before .before .before .before .before .args .t3)) m (c .before .before .before .before .loop .known)) (pred-suc (c .before .before .before .before .loop .s) (c .before .before .before .loop-test .taken)) (c .before .before .before .before .loop .inv .6)) (sum-whole (behind (c .before .before .before .before .before .args .bodies) (c .before .before .before .before .before .args .t2) (c .before .before .before .before .before .args .t3) (c .before .before .before .before .loop .s - 1)) (row-of 32 (c .before .before .before .before .before .args .bodies) (c .before .before .before .before .before .args .t2) (instructions (c .before .before .before .before .before .args .t3)) (c .before .before .before .before .loop .s - 1)) (count-body (behind (c .before .before .before .before .before .args .bodies) (c .before .before .before .before .before .args .t2) (c .before .before .before .before .before .args .t3) (c .before .before .before .before .loop .s - 1)) (row-of 32 (c .before .before .before .before .before .args .bodies) (c .before .before .before .before .before .args .t2) (instructions (c .before .before .before .before .before .args .t3)) (c .before .before .before .before .loop .s - 1))) (c .before .loop2 .n) (c .before .loop2 .i) (c .before .loop2 .inv .3) (omega arith) (c .before .loop2 .inv .4)))
 
 returns : tie.Need-returns Inv-loop2 μ-loop2 Inv-loop μ-loop
 returns c = known-whole (bodies-of (c .before .before .args .bodies) (c .before .before .args .t2) (c .before .before .args .t3)) (c .before .loop .known) (subst (λ (m : ℕ). Known (bodies-of (c .before .before .args .bodies) (c .before .before .args .t2) (c .before .before .args .t3)) m (c .before .loop .known)) (none-left (c .before .loop .s) (c .loop-test .left)) (c .before .loop .inv .6))

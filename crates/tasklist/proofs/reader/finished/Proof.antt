@@ -5,7 +5,7 @@ use Rattle.tasklist.specs.Answers.{ReadAs, refusal-number}
 use Rattle.tasklist.specs.Tables.{capped, list-of}
 use Rattle.tasklist.specs.TaskList.{task-count}
 use Rattle.tasklist.proofs.ReaderLaws.{sized-many, accepted-reading}
-use Rattle.tasklist.proofs.CountLaws.{getD-default}
+use Rattle.tasklist.proofs.PlaceLaws.{getD-default}
 use lib.ListN.{length, drop, getD}
 use native.Mathlib.Omega.{arith}
 use mathlib.Core.Path.{_≡_, refl, sym, ap, _∙_, subst}

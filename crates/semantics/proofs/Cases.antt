@@ -1,0 +1,150 @@
+-- The cases of document 01 that are marked *, and a few more of its words: one theorem over one list, by computation. Assumes
+-- nothing.
+use Prim.Native.Nat.{ℕ}
+use mathlib.Core.Path.{_≡_, refl}
+use mathlib.Core.List.{List, [], _∷_, _++_}
+use mathlib.Core.Bool.{true}
+use lib.ListN.{length}
+use Rattle.tasklist.specs.declared.Instruction.{Instruction}
+use Rattle.tasklist.specs.declared.Instruction.the-variants.{Const, Load, Store, Spawn}
+use Rattle.tasklist.specs.TaskList.{TaskList, body-of, footprint-of, instruction-of, total, adds, count-body, count-from, counts, task-count}
+use Rattle.tasklist.specs.Fields.{field, is-tag, tag, in-range, number, counted, many, row}
+use Rattle.tasklist.specs.Decode.{head-numbers, head, line-limit, line-ok, is-line, line, footprint, forms, form, instruction-ok, is-instruction, instruction, body, list-behind, sized, finish, decode}
+use Rattle.tasklist.specs.Decode
+use Rattle.tasklist.specs.Encode.{instruction-fields}
+use Rattle.semantics.specs.Run.{no-modes, never, fixed-weights, weight-of, root-modes, root, initial}
+use Rattle.semantics.specs.Access.{every, only, ahead, queue, compatible, allowed, access-fault}
+use Rattle.semantics.specs.Footprint.{targets, all-targets, twice, first-fault, unless-denied, grant, child-modes}
+use Rattle.semantics.specs.Plan.{unless-fault, plan-load, plan-store, plan-wait, passed-over, child-number, plan-spawn, plan-instruction, step-weight, at-end, needs-from, plan-start, plan-step, plan-end, plan}
+use Rattle.semantics.specs.Call.{Call, hold, admit, settle, among, decide, edited, written, splice, stays, places, changes, apply, taken, call, after, after-all}
+use Rattle.semantics.specs.Sequential.{start-of, step-of, end-of, run-each, step-through, steps-through, enough, run-whole, sequential}
+use Rattle.semantics.specs.Operations.{queue-places}
+use Rattle.semantics.specs.Answers.{outcome-number}
+use Rattle.semantics.specs.Case.{Case, by-hand, by-calls, tasks-in, refused-with, memory-is, order-is, queue-is, fault-is, calls-are, weight-is, same, is-so, answers, has-tasks, is-refused, holds}
+
+-- document 01's P: "C = 2, footprint 0 (write 0), footprint 1 (read 0, write 1)"
+abbrev P : TaskList
+P =
+    record {
+      locations = 2;
+      footprints =
+          (record { kind = 1; value = 0 } ∷ []) ∷
+          (record { kind = 0; value = 0 } ∷ record { kind = 1; value = 1 } ∷ []) ∷ [];
+      bodies =
+          (Spawn 1 0 ∷ Spawn 2 1 ∷ []) ∷
+          (Const 1 9 ∷ Store 0 1 ∷ []) ∷
+          (Load 1 0 ∷ Const 2 1 ∷ Store 2 1 ∷ []) ∷ [];
+    }
+
+-- two locations; footprints: read 0; 0 named twice
+abbrev small : List (List Instruction) → TaskList
+small bodies =
+    record {
+      locations = 2;
+      footprints =
+          (record { kind = 0; value = 0 } ∷ []) ∷
+          (record { kind = 0; value = 0 } ∷ record { kind = 1; value = 0 } ∷ []) ∷ [];
+      bodies = bodies;
+    }
+
+-- "Two children of job 0 reading one entry"
+abbrev readers : TaskList
+readers = small ((Spawn 1 0 ∷ Spawn 1 0 ∷ Load 1 0 ∷ Store 0 1 ∷ []) ∷ [] ∷ [])
+
+-- "Store to a read entry"
+abbrev store-to-read : TaskList
+store-to-read = small ((Spawn 1 0 ∷ []) ∷ (Const 1 9 ∷ Store 0 1 ∷ []) ∷ [])
+
+-- "Load of entry 2 where C = 2"
+abbrev load-beyond : TaskList
+load-beyond = small ((Const 0 2 ∷ Load 1 0 ∷ []) ∷ [])
+
+-- "An entry named twice"
+abbrev named-twice : TaskList
+named-twice = small ((Spawn 1 1 ∷ []) ∷ [] ∷ [])
+
+-- job 0's two children read location 0; the second then stores there, loads location 1, or spawns
+abbrev second-reader : List Instruction → TaskList
+second-reader is = small ((Spawn 1 0 ∷ Spawn 2 0 ∷ []) ∷ [] ∷ is ∷ [] ∷ [])
+
+-- job 0 spawns two tasks that spawn one each
+abbrev nested : TaskList
+nested = small ((Spawn 1 0 ∷ Spawn 1 0 ∷ []) ∷ (Spawn 2 0 ∷ []) ∷ [] ∷ [])
+
+-- the bytes of a body that spawns these bodies
+abbrev spawns : List ℕ → List ℕ
+spawns [] = []
+spawns (s ∷ ss) = 7 ∷ s ∷ 0 ∷ 0 ∷ spawns ss
+
+abbrev spawner : List ℕ → List ℕ
+spawner ss = 0x4A ∷ 0x42 ∷ length ss ∷ spawns ss
+
+-- "Seven sheets, each but the last spawning the next twice", sheet 0 also spawning these
+abbrev tower : List ℕ → List ℕ
+tower more =
+    (0x4A ∷ 0x48 ∷ 1 ∷ 1 ∷ 7 ∷ 0x4A ∷ 0x46 ∷ 0 ∷ []) ++ spawner (1 ∷ 1 ∷ more) ++ spawner (2 ∷ 2 ∷ []) ++
+    spawner (3 ∷ 3 ∷ []) ++ spawner (4 ∷ 4 ∷ []) ++ spawner (5 ∷ 5 ∷ []) ++ spawner (6 ∷ 6 ∷ []) ++ spawner []
+
+-- start 0, step 0, step 0
+abbrev opening : List Call
+opening = start-of 0 ∷ step-of 0 ∷ step-of 0 ∷ []
+
+-- then the start and one or two steps of the second child
+abbrev second-steps : List Call
+second-steps = opening ++ (start-of 2 ∷ step-of 2 ∷ step-of 2 ∷ [])
+
+abbrev pub cases : List Case
+cases =
+    -- P: "Hand run: 9, 9; 13 calls; weight 50."
+    by-hand P (5 ∷ 7 ∷ []) (memory-is (9 ∷ 9 ∷ []) ∷ order-is [] ∷ calls-are 13 ∷ weight-is 50 ∷ []) ∷
+    -- "After start 0, step 0, step 0: order 1, 2, 0; queue of entry 0 is 513, 258, 512; of entry 1 it is 514, 512."
+    by-calls P (5 ∷ 7 ∷ []) opening (0 ∷ 0 ∷ 0 ∷ [])
+    (order-is (1 ∷ 2 ∷ 0 ∷ []) ∷ queue-is 0 (513 ∷ 258 ∷ 512 ∷ []) ∷ queue-is 1 (514 ∷ 512 ∷ []) ∷ []) ∷
+    -- "Then start 2 gives 12, start 1 is accepted, end 0 is accepted."
+    by-calls P (5 ∷ 7 ∷ []) (opening ++ (start-of 2 ∷ start-of 1 ∷ end-of 0 ∷ [])) (0 ∷ 0 ∷ 0 ∷ 12 ∷ 0 ∷ 0 ∷ [])
+    (order-is (1 ∷ 2 ∷ []) ∷ calls-are 5 ∷ weight-is 28 ∷ []) ∷
+    -- "Two children of job 0 reading one entry: both start; job 0 may load it; its store gives 12."
+    by-calls readers (5 ∷ 7 ∷ []) (opening ++ (start-of 2 ∷ start-of 1 ∷ step-of 0 ∷ step-of 0 ∷ []))
+    (0 ∷ 0 ∷ 0 ∷ 0 ∷ 0 ∷ 0 ∷ 12 ∷ [])
+    (memory-is (5 ∷ 7 ∷ []) ∷ []) ∷
+    -- "Store to a read entry: fault 2, entry unchanged."
+    by-hand store-to-read (5 ∷ 7 ∷ []) (fault-is 1 2 ∷ memory-is (5 ∷ 7 ∷ []) ∷ []) ∷
+    -- "Load of entry 2 where C = 2: fault 1."
+    by-hand load-beyond (5 ∷ 7 ∷ []) (fault-is 0 1 ∷ []) ∷
+    -- "An entry named twice: fault 3, no child."
+    by-calls named-twice (5 ∷ 7 ∷ []) (start-of 0 ∷ step-of 0 ∷ []) (0 ∷ 0 ∷ [])
+    (fault-is 0 3 ∷ order-is (0 ∷ []) ∷ []) ∷
+    -- "Empty sheet 0: start, end; 2 calls, weight 7."
+    by-calls (small ([] ∷ [])) (5 ∷ 7 ∷ []) (start-of 0 ∷ end-of 0 ∷ []) (0 ∷ 0 ∷ [])
+    (order-is [] ∷ calls-are 2 ∷ weight-is 7 ∷ []) ∷
+    by-hand (small ([] ∷ [])) (5 ∷ 7 ∷ []) (calls-are 2 ∷ weight-is 7 ∷ []) ∷
+    -- "Seven sheets, each but the last spawning the next twice: 127 jobs. Sheet 0 also spawning the last once: 128, accepted;
+    -- twice: 129, refused 7."
+    tasks-in (tower []) 127 ∷
+    tasks-in (tower (6 ∷ [])) 128 ∷
+    refused-with (tower (6 ∷ 6 ∷ [])) 7 ∷
+    -- Besides those marked. "With P and input 00 00 01 00 01 00 00 02 it prints the lines 0, 0, 0, 12, 5, 7, `3 21 3`."
+    by-calls P (5 ∷ 7 ∷ []) (opening ++ (start-of 2 ∷ [])) (0 ∷ 0 ∷ 0 ∷ 12 ∷ [])
+    (memory-is (5 ∷ 7 ∷ []) ∷ calls-are 3 ∷ weight-is 21 ∷ order-is (1 ∷ 2 ∷ 0 ∷ []) ∷ []) ∷
+    -- "makes job n + 1 + the counts of all spawns before i": the second child is job 3, whichever spawns first
+    by-calls nested (5 ∷ 7 ∷ []) (opening ++ (start-of 3 ∷ step-of 3 ∷ start-of 1 ∷ step-of 1 ∷ []))
+    (0 ∷ 0 ∷ 0 ∷ 0 ∷ 0 ∷ 0 ∷ 0 ∷ [])
+    (order-is (2 ∷ 1 ∷ 4 ∷ 3 ∷ 0 ∷ []) ∷ []) ∷
+    -- the refusals of start, step and end, in their order
+    by-calls P (5 ∷ 7 ∷ [])
+    (start-of 128 ∷ step-of 128 ∷ end-of 128 ∷ start-of 1 ∷ step-of 1 ∷ end-of 1 ∷ step-of 0 ∷ end-of 0 ∷ start-of 0 ∷
+    start-of 0 ∷ end-of 0 ∷ step-of 0 ∷ step-of 0 ∷ step-of 0 ∷ [])
+    (9 ∷ 9 ∷ 9 ∷ 10 ∷ 10 ∷ 10 ∷ 13 ∷ 13 ∷ 0 ∷ 11 ∷ 15 ∷ 0 ∷ 0 ∷ 14 ∷ [])
+    (calls-are 3 ∷ []) ∷
+    -- "Faults come before waiting": a store in mode read behind another reader; a load of a location that only job 0 has
+    by-calls (second-reader (Store 0 1 ∷ [])) (5 ∷ 7 ∷ []) second-steps (0 ∷ 0 ∷ 0 ∷ 0 ∷ 0 ∷ 14 ∷ [])
+    (fault-is 2 2 ∷ memory-is (5 ∷ 7 ∷ []) ∷ []) ∷
+    by-calls (second-reader (Const 0 1 ∷ Load 1 0 ∷ [])) (5 ∷ 7 ∷ []) second-steps (0 ∷ 0 ∷ 0 ∷ 0 ∷ 0 ∷ 0 ∷ [])
+    (fault-is 2 1 ∷ []) ∷
+    -- "Lines are tested in turn": the second line writes where the spawner reads, which comes before naming twice
+    by-calls (second-reader (Spawn 3 1 ∷ [])) (5 ∷ 7 ∷ []) second-steps (0 ∷ 0 ∷ 0 ∷ 0 ∷ 0 ∷ 14 ∷ [])
+    (fault-is 2 2 ∷ order-is (1 ∷ 2 ∷ 0 ∷ []) ∷ []) ∷ []
+
+pub cases-hold : every holds cases ≡ true
+unfolding body-of footprint-of instruction-of total adds count-body count-from counts task-count field is-tag tag in-range number counted many row head-numbers head line-limit line-ok is-line line footprint forms form instruction-ok is-instruction instruction body list-behind sized finish decode Decode.register instruction-fields no-modes never fixed-weights weight-of root-modes root initial every only ahead queue compatible allowed access-fault unless-fault plan-load plan-store plan-wait passed-over targets all-targets twice first-fault unless-denied grant child-modes child-number plan-spawn plan-instruction step-weight at-end needs-from plan-start plan-step plan-end plan hold admit settle among decide edited written splice stays places changes apply taken call after after-all run-each step-through steps-through enough run-whole sequential queue-places outcome-number same is-so answers has-tasks is-refused holds
+cases-hold = refl

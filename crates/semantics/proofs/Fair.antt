@@ -1,0 +1,189 @@
+-- Fair plans: what every plan leaves alone, and where the numbers of the tasks it makes come from. Assumes nothing.
+use Prim.Native.Nat.{ℕ, zero, suc, _+_, _≤_, _<_}
+use mathlib.Core.Path.{_≡_, refl, sym, ap, subst, _∙_}
+use mathlib.Core.List.{List, [], _∷_, _++_}
+use mathlib.Core.Bool.{Bool, true, false, cond, _&&_, _||_, false≢true}
+use mathlib.Core.Logic.{inl, inr}
+use native.Mathlib.Omega.{arith}
+use native.Mathlib.Nat.{le-refl}
+use lib.ListN.{length, getD, take, drop}
+use lib.Seq.{take-add, drop-cons}
+use lib.Dec.{ltb, eqb}
+use borrow.Author.Tests.{ltb-true, leb-false, eqb-true}
+use Rattle.tasklist.specs.declared.Instruction.{Instruction}
+use Rattle.tasklist.specs.declared.Instruction.the-variants.{Const, Add, Sub, Less, Load, Store, Skip, Spawn, Wait}
+use Rattle.tasklist.specs.TaskList.{blank-instruction, body-of, footprint-of, instruction-of, total, adds, task-count}
+use Rattle.tasklist.specs.Decode.{instruction-ok}
+use Rattle.tasklist.specs.Accepted.{Accepted, scope-of}
+use Rattle.semantics.specs.Run.{Task, Context, mode-of, register}
+use Rattle.semantics.specs.Access.{Access, writes, access-fault}
+use Rattle.semantics.specs.Effect.{Edit, keep, put, Numbered, Effect, Plan, stop, go, fetch, own, moved, faulted, child}
+use Rattle.semantics.specs.Footprint.{Grant, denied, granted, child-modes}
+use Rattle.semantics.specs.Plan.{unless-fault, plan-load, plan-store, plan-wait, child-number, plan-spawn, plan-instruction, at-end, plan-start, plan-step, plan-end, Action, start, step, end, plan}
+use Rattle.semantics.specs.Sound.{In}
+use Rattle.semantics.proofs.Order.{and-left, and-right}
+use Rattle.semantics.proofs.Modes.{Under, GrantUnder, child-under}
+
+-- The tasks made, packed one behind the other between two numbers, each with the block of numbers of its body's count.
+abbrev pub Packed : Context → ℕ → List Numbered → ℕ → Type 0
+Packed c low [] high = low ≤ high
+Packed c low (x ∷ xs) high = (low ≤ x .number) × Packed c (x .number + task-count (c .list) (x .task .body)) xs high
+
+-- A task just made by t: waiting, at its body's begin, under t's modes, with a higher body of the list.
+pub record Newborn (c : Context) (t t′ : Task) : Type 0 where
+  pub waiting : t′ .state ≡ 1
+  pub begins : t′ .pc ≡ 0
+  pub under : Under t (t′ .modes)
+  pub higher : t .body < t′ .body
+  pub exists : t′ .body < length (c .list .bodies)
+
+-- What an effect on task n of record t keeps.
+pub record Fair (c : Context) (n : ℕ) (t : Task) (e : Effect) : Type 0 where
+  pub body : e .task .body ≡ t .body
+  pub modes : e .task .modes ≡ t .modes
+  pub alive : e .leaves ≡ false → e .task .state ≡ 2
+  pub born : (x : Numbered) → In x (e .made) → Newborn c t (x .task)
+  pub packed : Packed c (child-number c n t) (e .made) (child-number c n (e .task))
+
+-- an edit stands behind a guard of its own location, and the task's own mode allows it
+abbrev pub Guarded : Task → List Access → Edit → Type 0
+Guarded t gs keep = Unit {0}
+Guarded t gs (put a v) = In (writes a) gs × (access-fault (mode-of t a) 2 ≡ 0)
+
+abbrev pub FairPlan : Context → ℕ → Task → Plan → Type 0
+FairPlan c n t (stop k) = Unit {0}
+FairPlan c n t (go gs e) = Fair c n t e × Guarded t gs (e .edit)
+FairPlan c n t (fetch a f) = (access-fault (mode-of t a) 1 ≡ 0) × ((v : ℕ) → Fair c n t (f v) × (f v .edit ≡ keep))
+
+-- the numbers given out up to a place of a body
+pub total-append : {A : Type 0} (f : A → ℕ) (xs ys : List A) → total f (xs ++ ys) ≡ total f xs + total f ys
+unfolding total
+total-append f [] ys = omega arith
+total-append f (x ∷ xs) ys = rw (total-append f xs ys) (omega arith)
+
+total-take-le : {A : Type 0} (f : A → ℕ) (l : List A) (i k : ℕ) → total f (take i l) ≤ total f (take (i + k) l)
+total-take-le f l i k = rw (take-add i k l, total-append f (take i l) (take k (drop i l))) (omega arith)
+
+pub total-take-one :
+    {A : Type 0} (f : A → ℕ) (l : List A) (i : ℕ) (d : A) → i < length l
+    → total f (take (i + 1) l) ≡ total f (take i l) + f (getD l i d)
+unfolding total
+total-take-one f l i d h = rw (take-add i 1 l, total-append f (take i l) (take 1 (drop i l)), drop-cons l i d h) (omega arith)
+
+pub total-take-all : {A : Type 0} (f : A → ℕ) (l : List A) (i : ℕ) → total f (take i l) ≤ total f l
+unfolding total
+total-take-all f l zero = omega arith
+total-take-all f [] (suc i) = omega arith
+total-take-all f (x ∷ l) (suc i) = let h = total-take-all f l i in omega arith
+
+module _ (c : Context) (n : ℕ) (t : Task) where
+  pub later-number : (k : ℕ) (rs : List ℕ) → child-number c n t ≤ child-number c n (moved k rs t)
+  unfolding child-number
+  later-number k rs =
+      let h = total-take-le (adds (task-count (c .list))) (body-of (c .list) (t .body)) (t .pc) k in omega arith
+
+  fair-moved : (w k : ℕ) (rs : List ℕ) → t .state ≡ 2 → Fair c n t (own w (moved k rs t))
+  fair-moved w k rs s =
+      record { body = refl; modes = refl; alive = λ _. s; born = λ x i. absurd i; packed = later-number k rs }
+
+  fair-faulted : (w k : ℕ) → t .state ≡ 2 → Fair c n t (own w (faulted k t))
+  unfolding child-number
+  fair-faulted w k s =
+      record { body = refl; modes = refl; alive = λ _. s; born = λ x i. absurd i; packed = le-refl _ }
+
+  fair-unless : (f w : ℕ) (p : Plan) → t .state ≡ 2 → (f ≡ 0 → FairPlan c n t p) → FairPlan c n t (unless-fault f w t p)
+  unfolding unless-fault
+  fair-unless zero w p s h = h refl
+  fair-unless (suc k) w p s h = (fair-faulted w (suc k) s, tt)
+
+  fair-cond :
+      (b : Bool) (p q : Plan) → (b ≡ true → FairPlan c n t p) → (b ≡ false → FairPlan c n t q)
+      → FairPlan c n t (cond b p q)
+  fair-cond true p q h k = h refl
+  fair-cond false p q h k = k refl
+
+  fair-spawn :
+      (ok : Accepted (c .list)) (w s f : ℕ) → t .state ≡ 2 → t .pc < length (body-of (c .list) (t .body))
+      → instruction-of (c .list) (t .body) (t .pc) ≡ Spawn s f → (g : Grant) → GrantUnder t g
+      → FairPlan c n t (plan-spawn c w n t s g)
+  unfolding plan-spawn
+  fair-spawn ok w s f st h q (denied k) u = (fair-faulted w k st, tt)
+  fair-spawn ok w s f st h q (granted ms) u =
+      (record { body = refl; modes = refl; alive = λ _. st; born = born; packed = packed }, tt)
+    where
+      fits : (ltb (t .body) s && ltb s (length (c .list .bodies)) && ltb f (length (c .list .footprints))) ≡ true
+      fits = unfold instruction-ok in subst (λ i. instruction-ok (scope-of (c .list) (t .body) (t .pc)) i ≡ true) q (ok .instructions (t .body) (t .pc) h)
+
+      both : (ltb (t .body) s && ltb s (length (c .list .bodies))) ≡ true
+      both = and-left (ltb (t .body) s && ltb s (length (c .list .bodies))) _ fits
+
+      born :
+          (x : Numbered) → In x (record { number = child-number c n t; task = child s ms t } ∷ [])
+          → Newborn c t (x .task)
+      born x (inl e) =
+          subst (λ y. Newborn c t (y .task)) (sym e)
+          (record {
+            waiting = refl;
+            begins = refl;
+            under = u;
+            higher = ltb-true (t .body) s (and-left _ (ltb s (length (c .list .bodies))) both);
+            exists = ltb-true s (length (c .list .bodies)) (and-right (ltb (t .body) s) _ both);
+          })
+      born x (inr e) = absurd e
+
+      grows :
+          total (adds (task-count (c .list))) (take (t .pc + 1) (body-of (c .list) (t .body)))
+          ≡ total (adds (task-count (c .list))) (take (t .pc) (body-of (c .list) (t .body))) + task-count (c .list) s
+      grows =
+          total-take-one (adds (task-count (c .list))) (body-of (c .list) (t .body)) (t .pc) blank-instruction h
+          ∙ ap (λ k. total (adds (task-count (c .list))) (take (t .pc) (body-of (c .list) (t .body))) + k)
+          (unfold adds instruction-of in ap (adds (task-count (c .list))) q)
+
+      packed :
+          Packed c (child-number c n t) (record { number = child-number c n t; task = child s ms t } ∷ []) (child-number c n (moved 1 (t .registers) t))
+      packed = (le-refl _, unfold child-number in omega (arith, grows))
+
+  fair-instruction :
+      (ok : Accepted (c .list)) (w : ℕ) → t .state ≡ 2 → t .pc < length (body-of (c .list) (t .body))
+      → (i : Instruction) → instruction-of (c .list) (t .body) (t .pc) ≡ i → FairPlan c n t (plan-instruction c w n t i)
+  unfolding plan-instruction plan-load plan-store plan-wait
+  fair-instruction ok w s h (Const a v) q = (fair-moved w 1 _ s, tt)
+  fair-instruction ok w s h (Add a x y) q = (fair-moved w 1 _ s, tt)
+  fair-instruction ok w s h (Sub a x y) q = (fair-moved w 1 _ s, tt)
+  fair-instruction ok w s h (Less a x y) q = (fair-moved w 1 _ s, tt)
+  fair-instruction ok w s h (Load a x) q =
+      fair-unless (access-fault (mode-of t (register t x)) 1) w _ s (λ f. (f, λ v. (fair-moved w 1 _ s, refl)))
+  fair-instruction ok w s h (Store a x) q =
+      fair-unless (access-fault (mode-of t (register t a)) 2) w _ s
+      (λ f. (record { body = refl; modes = refl; alive = λ _. s; born = λ y i. absurd i; packed = later-number 1 (t .registers) }, (inl refl, f)))
+  fair-instruction ok w s h (Skip a b) q = (fair-moved w _ _ s, tt)
+  fair-instruction ok w s h (Spawn b f) q = fair-spawn ok w b f s h q (child-modes t (footprint-of (c .list) f)) (child-under t _)
+  fair-instruction ok w s h (Wait a) q =
+      fair-unless (access-fault (mode-of t (register t a)) (mode-of t (register t a))) w _ s (λ f. (fair-moved w 1 _ s, tt))
+
+  pub not-at-end : at-end c t ≡ false → t .pc < length (body-of (c .list) (t .body))
+  unfolding at-end
+  not-at-end h = leb-false (length (body-of (c .list) (t .body))) (t .pc) (first _ _ h)
+    where
+      first : (a b : Bool) → (a || b) ≡ false → a ≡ false
+      first true b q = q
+      first false b q = refl
+
+  pub fair-plan : Accepted (c .list) → (a : Action) → FairPlan c n t (plan c a n t)
+  unfolding plan plan-start plan-step plan-end child-number
+  fair-plan ok start =
+      fair-cond (eqb (t .state) 1) _ _
+      (λ _. (record { body = refl; modes = refl; alive = λ _. refl; born = λ x i. absurd i; packed = le-refl _ }, tt)) (λ _. tt)
+  fair-plan ok step =
+      fair-cond (eqb (t .state) 2) _ _
+      (λ s.
+      fair-cond (at-end c t) _ _ (λ _. tt)
+      (λ h. fair-instruction ok _ (eqb-true (t .state) 2 s) (not-at-end h) _ refl))
+      (λ _. tt)
+  fair-plan ok end =
+      fair-cond (eqb (t .state) 2) _ _
+      (λ s.
+      fair-cond (at-end c t) _ _
+      (λ _. (record { body = refl; modes = refl; alive = λ q. absurd (false≢true (sym q)); born = λ x i. absurd i; packed = le-refl _ }, tt))
+      (λ _. tt))
+      (λ _. tt)

@@ -1,0 +1,136 @@
+-- Laws of the two tables of modes, and of what a footprint grants: a child's modes are under its spawner's. Assumes nothing.
+use Prim.Native.Nat.{ℕ, zero, suc, _<_}
+use mathlib.Core.Path.{_≡_, refl, sym, ap, subst}
+use mathlib.Core.List.{List, [], _∷_}
+use mathlib.Core.Bool.{true, false}
+use mathlib.Core.Logic.{_⊎_, inl, inr}
+use native.Mathlib.Decide.{ℕ-discrete, decLt}
+use native.Mathlib.Omega.{arith}
+use lib.ListN.{length, getD, set, replicate}
+use lib.Seq.{getD-set-same, getD-set-other, set-out}
+use Rattle.tasklist.specs.declared.Line.{Line}
+use Rattle.semantics.specs.Run.{Task, mode-of, no-modes}
+use Rattle.semantics.specs.Access.{Access, compatible, access-fault}
+use Rattle.semantics.specs.Footprint.{Grant, denied, granted, first-fault, unless-denied, grant, child-modes, all-targets, twice}
+
+pub not-zero : (n : ℕ) → suc n ≡ 0 → ⊥
+not-zero n h = omega arith
+
+-- what stands beside any mode stands beside none
+pub compatible-none : (m w : ℕ) → compatible m w ≡ true → compatible 0 w ≡ true
+unfolding compatible
+compatible-none m zero h = refl
+compatible-none m (suc zero) h = refl
+compatible-none m (suc (suc zero)) h = refl
+compatible-none zero (suc (suc (suc w))) h = h
+compatible-none (suc zero) (suc (suc (suc w))) h = h
+compatible-none (suc (suc zero)) (suc (suc (suc w))) h = h
+compatible-none (suc (suc (suc m))) (suc (suc (suc w))) h = h
+
+read-below-write : (w : ℕ) → compatible 2 w ≡ true → compatible 1 w ≡ true
+unfolding compatible
+read-below-write zero h = refl
+read-below-write (suc zero) h = refl
+read-below-write (suc (suc zero)) h = h
+read-below-write (suc (suc (suc w))) h = h
+
+-- a mode that the own mode grants is under it
+pub granted-under : (o m w : ℕ) → access-fault o m ≡ 0 → compatible o w ≡ true → compatible m w ≡ true
+granted-under zero zero w f h = h
+granted-under zero (suc zero) w f h = absurd (not-zero 0 (unfold access-fault in f))
+granted-under zero (suc (suc zero)) w f h = absurd (not-zero 0 (unfold access-fault in f))
+granted-under zero (suc (suc (suc m))) w f h = absurd (not-zero 0 (unfold access-fault in f))
+granted-under (suc zero) zero w f h = compatible-none 1 w h
+granted-under (suc zero) (suc zero) w f h = h
+granted-under (suc zero) (suc (suc zero)) w f h = absurd (not-zero 1 (unfold access-fault in f))
+granted-under (suc zero) (suc (suc (suc m))) w f h = absurd (not-zero 0 (unfold access-fault in f))
+granted-under (suc (suc zero)) zero w f h = compatible-none 2 w h
+granted-under (suc (suc zero)) (suc zero) w f h = read-below-write w h
+granted-under (suc (suc zero)) (suc (suc zero)) w f h = h
+granted-under (suc (suc zero)) (suc (suc (suc m))) w f h = absurd (not-zero 0 (unfold access-fault in f))
+granted-under (suc (suc (suc o))) m w f h = absurd (not-zero 0 (unfold access-fault in f))
+
+-- a task that may store stands beside no reading and no writing; one that may load, beside no writing
+pub store-excludes-reading : (o : ℕ) → access-fault o 2 ≡ 0 → compatible o 1 ≡ false
+store-excludes-reading zero f = absurd (not-zero 0 (unfold access-fault in f))
+store-excludes-reading (suc zero) f = absurd (not-zero 1 (unfold access-fault in f))
+store-excludes-reading (suc (suc zero)) f = unfold compatible in refl
+store-excludes-reading (suc (suc (suc o))) f = absurd (not-zero 0 (unfold access-fault in f))
+
+pub store-excludes-writing : (o : ℕ) → access-fault o 2 ≡ 0 → compatible o 2 ≡ false
+store-excludes-writing zero f = absurd (not-zero 0 (unfold access-fault in f))
+store-excludes-writing (suc zero) f = absurd (not-zero 1 (unfold access-fault in f))
+store-excludes-writing (suc (suc zero)) f = unfold compatible in refl
+store-excludes-writing (suc (suc (suc o))) f = absurd (not-zero 0 (unfold access-fault in f))
+
+pub load-excludes-writing : (o : ℕ) → access-fault o 1 ≡ 0 → compatible o 2 ≡ false
+load-excludes-writing zero f = absurd (not-zero 0 (unfold access-fault in f))
+load-excludes-writing (suc zero) f = unfold compatible in refl
+load-excludes-writing (suc (suc zero)) f = unfold compatible in refl
+load-excludes-writing (suc (suc (suc o))) f = absurd (not-zero 0 (unfold access-fault in f))
+
+-- these modes are under the task's: what stands beside the task's stands beside them
+abbrev pub Under : Task → List ℕ → Type 0
+Under t ms = (a w : ℕ) → compatible (mode-of t a) w ≡ true → compatible (getD ms a 0) w ≡ true
+
+getD-zeros : (n a : ℕ) → _≡_ {A = ℕ} (getD (replicate n 0) a 0) 0
+getD-zeros zero a = refl
+getD-zeros (suc n) zero = refl
+getD-zeros (suc n) (suc a) = getD-zeros n a
+
+pub none-at : (a : ℕ) → getD no-modes a 0 ≡ 0
+unfolding no-modes
+none-at a = getD-zeros 64 a
+
+no-modes-under : (t : Task) → Under t no-modes
+no-modes-under t a w h = rw (none-at a) (compatible-none (mode-of t a) w h)
+
+pub getD-set-cases :
+    {A : Type 0} (l : List A) (i : ℕ) (x : A) (j : ℕ) (d : A)
+    → (getD (set l i x) j d ≡ getD l j d) ⊎ ((j ≡ i) × (getD (set l i x) j d ≡ x))
+getD-set-cases l i x j d = go (ℕ-discrete j i) (decLt i (length l))
+  where
+    go : Dec (j ≡ i) → Dec (i < length l) → (getD (set l i x) j d ≡ getD l j d) ⊎ ((j ≡ i) × (getD (set l i x) j d ≡ x))
+    go (no q) h = inl (getD-set-other l i j x d q)
+    go (yes q) (yes h) = inr (q, subst (λ k. getD (set l i x) k d ≡ x) (sym q) (getD-set-same l i x d h))
+    go (yes q) (no h) = inl (ap (λ s. getD s j d) (set-out l i x (omega arith)))
+
+set-under :
+    (t : Task) (ms : List ℕ) (g : Access) → Under t ms → access-fault (mode-of t (g .location)) (g .mode) ≡ 0
+    → Under t (set ms (g .location) (g .mode))
+set-under t ms g u f a w h = go (getD-set-cases ms (g .location) (g .mode) a 0)
+  where
+    after : List ℕ
+    after = set ms (g .location) (g .mode)
+
+    go :
+        (getD after a 0 ≡ getD ms a 0) ⊎ ((a ≡ g .location) × (getD after a 0 ≡ g .mode))
+        → compatible (getD after a 0) w ≡ true
+    go (inl q) = subst (λ m. compatible m w ≡ true) (sym q) (u a w h)
+    go (inr q) =
+        subst (λ m. compatible m w ≡ true) (sym (q .1))
+        (granted-under (mode-of t (g .location)) (g .mode) w f (subst (λ k. compatible (mode-of t k) w ≡ true) (q .0) h))
+
+-- what a grant has of the modes it gives
+abbrev pub GrantUnder : Task → Grant → Type 0
+GrantUnder t (denied k) = Unit {0}
+GrantUnder t (granted ms) = Under t ms
+
+unless-under :
+    (t : Task) (f k : ℕ) (g : Grant) → (f ≡ 0 → GrantUnder t g) → GrantUnder t (unless-denied (first-fault f k) g)
+unfolding unless-denied first-fault
+unless-under t zero zero g h = h refl
+unless-under t zero (suc k) g h = tt
+unless-under t (suc f) k g h = tt
+
+grant-under : (t : Task) (ms : List ℕ) (gs : List Access) → Under t ms → GrantUnder t (grant t ms gs)
+unfolding grant
+grant-under t ms [] u = u
+grant-under t ms (g ∷ gs) u =
+    unless-under t (access-fault (mode-of t (g .location)) (g .mode)) (twice (getD ms (g .location) 0))
+    (grant t (set ms (g .location) (g .mode)) gs)
+    (λ f. grant-under t (set ms (g .location) (g .mode)) gs (set-under t ms g u f))
+
+pub child-under : (t : Task) (ls : List Line) → GrantUnder t (child-modes t ls)
+unfolding child-modes
+child-under t ls = grant-under t no-modes (all-targets t ls) (no-modes-under t)

@@ -1,0 +1,111 @@
+-- Document 01's rules of start, load, store and wait in its own words, for the whole call: who is let through, who is held
+-- back with 12, and that faults come before waiting. Assumes nothing.
+use Prim.Native.Nat.{ℕ, suc, _<_, _≤_}
+use mathlib.Core.Path.{_≡_, refl, sym, subst, _∙_}
+use mathlib.Core.List.{[], _∷_}
+use mathlib.Core.Bool.{Bool, true, false, cond, _&&_}
+use lib.ListN.{getD}
+use Rattle.semantics.specs.Run.{Run, Context, mode-of, task-of, start-weight}
+use Rattle.semantics.specs.Access.{Access, reads, writes, every, may-read, may-write, allowed, access-fault}
+use Rattle.semantics.specs.Effect.{Effect, own, in-state, moved, faulted, assigned, storing}
+use Rattle.semantics.specs.Plan.{unless-fault, plan-load, plan-store, plan-wait, start}
+use Rattle.semantics.specs.Call.{refuse, accept, hold, admit, settle}
+use Rattle.semantics.specs.Sequential.{start-of}
+use Rattle.semantics.specs.Sound.{In}
+use Rattle.semantics.proofs.Modes.{not-zero}
+use Rattle.semantics.proofs.Decide.{Settled, Accepts, settled-ready}
+use Rattle.semantics.proofs.Front.{start-plan}
+use Rattle.semantics.proofs.SoundModes.{none-grants}
+use Rattle.semantics.proofs.Wording.{read-wording, write-wording, MayStart, start-wording, wording-starts}
+
+-- "Start: the job may read each entry of mode 1 and write each of mode 2; its state becomes 2."
+module _ (c : Context) (r : Run) (n : ℕ) where
+  pub start-needs :
+      (e : Effect) → Accepts c r (start-of n) e
+      → (task-of r n .state ≡ 1) × MayStart r n × (own (start-weight c) (in-state 2 (task-of r n)) ≡ e)
+  start-needs e h =
+      let waits = settled-ready c r n (task-of r n) e start (h .settled) in
+      let s = subst (λ p. Settled r n p e) (start-plan c n (task-of r n) waits) (h .settled) in
+      (waits, start-wording r n (s .0), s .1)
+
+  pub start-enough :
+      n < 128 → In n (r .order) → task-of r n .state ≡ 1 → ((a : ℕ) → mode-of (task-of r n) a ≤ 2) → MayStart r n
+      → Accepts c r (start-of n) (own (start-weight c) (in-state 2 (task-of r n)))
+  start-enough l i waits most h =
+      record {
+        below = l;
+        present = i;
+        settled =
+            subst (λ p. Settled r n p (own (start-weight c) (in-state 2 (task-of r n)))) (sym (start-plan c n (task-of r n) waits))
+            (wording-starts r n most h, refl);
+      }
+
+-- one access is let through or held back, by a test that says the same
+admit-by :
+    (r : Run) (n : ℕ) (g : Access) (e : Effect) (test : Bool) → allowed r n g ≡ test
+    → admit r n (g ∷ []) e ≡ cond test (accept e) (refuse 12)
+unfolding admit every hold
+admit-by r n g e test q = rw q (look test)
+  where
+    look : (b : Bool) → cond (b && true) (accept e) (refuse 12) ≡ cond b (accept e) (refuse 12)
+    look true = refl
+    look false = refl
+
+no-access : (r : Run) (n : ℕ) (e : Effect) → admit r n [] e ≡ accept e
+unfolding admit every
+no-access r n e = refl
+
+module _ (r : Run) (n w place : ℕ) where
+  -- a location that the task's own mode lets it use has the task in its queue
+  queued : (asked : ℕ) → access-fault (mode-of (task-of r n) place) asked ≡ 0 → mode-of (task-of r n) place ≡ 0 → ⊥
+  queued asked f z = none-grants asked (subst (λ o. access-fault o asked ≡ 0) z f)
+
+  -- "Load needs reading"
+  pub load-rule :
+      (a : ℕ) → access-fault (mode-of (task-of r n) place) 1 ≡ 0
+      → settle r n (plan-load w (task-of r n) a place)
+      ≡ cond (may-read r n place) (accept (own w (assigned a (getD (r .memory) place 0) (task-of r n)))) (refuse 12)
+  unfolding plan-load unless-fault settle
+  load-rule a f = rw f (admit-by r n (reads place) _ _ (read-wording r n place (queued 1 f)))
+
+  -- "store needs writing"
+  pub store-rule :
+      (v : ℕ) → access-fault (mode-of (task-of r n) place) 2 ≡ 0
+      → settle r n (plan-store w (task-of r n) place v)
+      ≡ cond (may-write r n place) (accept (storing w place v (task-of r n))) (refuse 12)
+  unfolding plan-store unless-fault settle
+  store-rule v f = rw f (admit-by r n (writes place) _ _ (write-wording r n place (queued 2 f)))
+
+  -- "wait needs what the job's own mode there allows"
+  pub wait-reading :
+      mode-of (task-of r n) place ≡ 1
+      → settle r n (plan-wait w (task-of r n) place)
+      ≡ cond (may-read r n place) (accept (own w (moved 1 (task-of r n .registers) (task-of r n)))) (refuse 12)
+  unfolding plan-wait unless-fault settle access-fault
+  wait-reading q = rw q (admit-by r n (reads place) _ _ (read-wording r n place (λ z. not-zero 0 (sym q ∙ z))))
+
+  pub wait-writing :
+      mode-of (task-of r n) place ≡ 2
+      → settle r n (plan-wait w (task-of r n) place)
+      ≡ cond (may-write r n place) (accept (own w (moved 1 (task-of r n .registers) (task-of r n)))) (refuse 12)
+  unfolding plan-wait unless-fault settle access-fault
+  wait-writing q = rw q (admit-by r n (writes place) _ _ (write-wording r n place (λ z. not-zero 1 (sym q ∙ z))))
+
+  -- "Faults come before waiting": whoever stands ahead
+  pub load-fault :
+      (a k : ℕ) → access-fault (mode-of (task-of r n) place) 1 ≡ suc k
+      → settle r n (plan-load w (task-of r n) a place) ≡ accept (own w (faulted (suc k) (task-of r n)))
+  unfolding plan-load unless-fault settle
+  load-fault a k f = rw f (no-access r n _)
+
+  pub store-fault :
+      (v k : ℕ) → access-fault (mode-of (task-of r n) place) 2 ≡ suc k
+      → settle r n (plan-store w (task-of r n) place v) ≡ accept (own w (faulted (suc k) (task-of r n)))
+  unfolding plan-store unless-fault settle
+  store-fault v k f = rw f (no-access r n _)
+
+  pub wait-fault :
+      mode-of (task-of r n) place ≡ 0
+      → settle r n (plan-wait w (task-of r n) place) ≡ accept (own w (faulted 1 (task-of r n)))
+  unfolding plan-wait unless-fault settle access-fault
+  wait-fault q = rw q (no-access r n _)

@@ -1,0 +1,126 @@
+-- What the tables of modes and a footprint keep sound: faults of at most 3, modes of at most 2 and none from C on. Assumes
+-- nothing.
+use Prim.Native.Nat.{ℕ, zero, suc, _^_, _<_, _≤_}
+use mathlib.Core.Path.{_≡_, refl, sym, ap, subst, _∙_}
+use mathlib.Core.List.{List, [], _∷_}
+use mathlib.Core.Logic.{_⊎_, inl, inr}
+use native.Mathlib.Omega.{arith}
+use lib.ListN.{getD, set, length-set, length-replicate}
+use Rattle.tasklist.specs.declared.Line.{Line}
+use Rattle.semantics.specs.Run.{Task, mode-of, no-modes}
+use Rattle.semantics.specs.Access.{Access, access-fault}
+use Rattle.semantics.specs.Footprint.{Grant, denied, granted, twice, first-fault, unless-denied, grant, child-modes, all-targets}
+use Rattle.semantics.specs.Sound.{ModesSound, RegistersSound}
+use Rattle.semantics.proofs.Modes.{not-zero, none-at, getD-set-cases}
+
+-- the two tables
+pub fault-most : (o m : ℕ) → access-fault o m ≤ 2
+unfolding access-fault
+fault-most zero zero = omega arith
+fault-most zero (suc zero) = omega arith
+fault-most zero (suc (suc zero)) = omega arith
+fault-most zero (suc (suc (suc m))) = omega arith
+fault-most (suc zero) zero = omega arith
+fault-most (suc zero) (suc zero) = omega arith
+fault-most (suc zero) (suc (suc zero)) = omega arith
+fault-most (suc zero) (suc (suc (suc m))) = omega arith
+fault-most (suc (suc zero)) zero = omega arith
+fault-most (suc (suc zero)) (suc zero) = omega arith
+fault-most (suc (suc zero)) (suc (suc zero)) = omega arith
+fault-most (suc (suc zero)) (suc (suc (suc m))) = omega arith
+fault-most (suc (suc (suc o))) m = omega arith
+
+-- a mode that is granted is at most 2, and nothing is granted where the own mode is none
+granted-most : (o m : ℕ) → access-fault o m ≡ 0 → m ≤ 2
+granted-most o zero f = omega arith
+granted-most o (suc zero) f = omega arith
+granted-most o (suc (suc zero)) f = omega arith
+granted-most zero (suc (suc (suc m))) f = absurd (not-zero 0 (unfold access-fault in f))
+granted-most (suc zero) (suc (suc (suc m))) f = absurd (not-zero 0 (unfold access-fault in f))
+granted-most (suc (suc zero)) (suc (suc (suc m))) f = absurd (not-zero 0 (unfold access-fault in f))
+granted-most (suc (suc (suc o))) (suc (suc (suc m))) f = absurd (not-zero 0 (unfold access-fault in f))
+
+pub none-grants : (m : ℕ) → access-fault 0 m ≡ 0 → ⊥
+none-grants zero f = not-zero 0 (unfold access-fault in f)
+none-grants (suc zero) f = not-zero 0 (unfold access-fault in f)
+none-grants (suc (suc zero)) f = not-zero 0 (unfold access-fault in f)
+none-grants (suc (suc (suc m))) f = not-zero 0 (unfold access-fault in f)
+
+-- registers and modes after one is set
+pub registers-set : (rs : List ℕ) (a v : ℕ) → RegistersSound rs → v < 2 ^ 32 → RegistersSound (set rs a v)
+registers-set rs a v h k = record { size = length-set rs a v ∙ h .size; small = λ j. sort j (getD-set-cases rs a v j 0) }
+  where
+    sort :
+        (j : ℕ) → (getD (set rs a v) j 0 ≡ getD rs j 0) ⊎ ((j ≡ a) × (getD (set rs a v) j 0 ≡ v))
+        → getD (set rs a v) j 0 < 2 ^ 32
+    sort j (inl q) = subst (λ x. x < 2 ^ 32) (sym q) (h .small j)
+    sort j (inr q) = subst (λ x. x < 2 ^ 32) (sym (q .1)) k
+
+pub none-sound : (locations : ℕ) → ModesSound locations no-modes
+none-sound locations =
+    record {
+      size = unfold no-modes in length-replicate {A = ℕ} 64 0;
+      most = λ a. subst (λ x. x ≤ 2) (sym (none-at a)) (omega arith);
+      beyond = λ a l. none-at a;
+    }
+
+-- what a grant comes to: a fault of 1 to 3, or sound modes
+abbrev pub GrantSound : ℕ → Grant → Type 0
+GrantSound locations (denied k) = (k ≤ 3) × (k ≡ 0 → ⊥)
+GrantSound locations (granted ms) = ModesSound locations ms
+
+module _ (locations : ℕ) (t : Task) (own-modes : ModesSound locations (t .modes)) where
+  set-sound :
+      (ms : List ℕ) (g : Access) → ModesSound locations ms → access-fault (mode-of t (g .location)) (g .mode) ≡ 0
+      → ModesSound locations (set ms (g .location) (g .mode))
+  set-sound ms g h f =
+      record {
+        size = length-set ms (g .location) (g .mode) ∙ h .size;
+        most = λ a. most a (getD-set-cases ms (g .location) (g .mode) a 0);
+        beyond = λ a l. beyond a l (getD-set-cases ms (g .location) (g .mode) a 0);
+      }
+    where
+      after : List ℕ
+      after = set ms (g .location) (g .mode)
+
+      most :
+          (a : ℕ) → (getD after a 0 ≡ getD ms a 0) ⊎ ((a ≡ g .location) × (getD after a 0 ≡ g .mode))
+          → getD after a 0 ≤ 2
+      most a (inl q) = subst (λ x. x ≤ 2) (sym q) (h .most a)
+      most a (inr q) = subst (λ x. x ≤ 2) (sym (q .1)) (granted-most (mode-of t (g .location)) (g .mode) f)
+
+      beyond :
+          (a : ℕ) → locations ≤ a → (getD after a 0 ≡ getD ms a 0) ⊎ ((a ≡ g .location) × (getD after a 0 ≡ g .mode))
+          → getD after a 0 ≡ 0
+      beyond a l (inl q) = q ∙ h .beyond a l
+      beyond a l (inr q) =
+          absurd
+          (none-grants (g .mode)
+          (subst (λ o. access-fault o (g .mode) ≡ 0) (ap (mode-of t) (sym (q .0)) ∙ own-modes .beyond a l) f))
+
+  unless-sound :
+      (f k : ℕ) (g : Grant) → f ≤ 2 → k ≤ 3 → (f ≡ 0 → GrantSound locations g)
+      → GrantSound locations (unless-denied (first-fault f k) g)
+  unfolding unless-denied first-fault
+  unless-sound zero zero g p q h = h refl
+  unless-sound zero (suc k) g p q h = (q, not-zero k)
+  unless-sound (suc f) k g p q h = (omega arith, not-zero f)
+
+  twice-most : (m : ℕ) → twice m ≤ 3
+  unfolding twice
+  twice-most zero = omega arith
+  twice-most (suc m) = omega arith
+
+  grant-sound : (ms : List ℕ) (gs : List Access) → ModesSound locations ms → GrantSound locations (grant t ms gs)
+  unfolding grant
+  grant-sound ms [] h = h
+  grant-sound ms (g ∷ gs) h =
+      unless-sound (access-fault (mode-of t (g .location)) (g .mode)) (twice (getD ms (g .location) 0))
+      (grant t (set ms (g .location) (g .mode)) gs)
+      (fault-most (mode-of t (g .location)) (g .mode))
+      (twice-most (getD ms (g .location) 0))
+      (λ f. grant-sound (set ms (g .location) (g .mode)) gs (set-sound ms g h f))
+
+  pub child-sound : (ls : List Line) → GrantSound locations (child-modes t ls)
+  unfolding child-modes
+  child-sound ls = grant-sound no-modes (all-targets t ls) (none-sound locations)

@@ -1,0 +1,318 @@
+-- What a plan keeps sound: the bounds of a task's record, of the tasks made, of what is stored and of the weight; and each
+-- accepted call raises its task's rank by one. Assumes nothing.
+use Prim.Native.Nat.{ℕ, zero, suc, _+_, _-_, _^_, _<_, _≤_}
+use mathlib.Core.Path.{_≡_, refl, sym, ap, subst}
+use mathlib.Core.List.{List, [], _∷_}
+use mathlib.Core.Bool.{Bool, true, false, cond, _&&_, _||_, false≢true}
+use mathlib.Core.Logic.{inl, inr}
+use native.Mathlib.Omega.{arith}
+use native.Mathlib.Nat.{mod-lt}
+use lib.ListN.{length, getD, set}
+use lib.Dec.{ltb, leb, eqb}
+use borrow.Author.Tests.{eqb-true, leb-true, ltb-true, not-false}
+use Rattle.tasklist.specs.declared.Instruction.{Instruction}
+use Rattle.tasklist.specs.declared.Instruction.the-variants.{Const, Add, Sub, Less, Load, Store, Skip, Spawn, Wait}
+use Rattle.tasklist.specs.TaskList.{body-of, footprint-of}
+use Rattle.tasklist.specs.Decode.{instruction-ok}
+use Rattle.tasklist.specs.Accepted.{Accepted, scope-of}
+use Rattle.tasklist.specs.Decode
+use Rattle.semantics.specs.Run.{Task, Context, mode-of, register, weight-of}
+use Rattle.semantics.specs.Access.{access-fault}
+use Rattle.semantics.specs.Effect.{Edit, keep, put, Numbered, Effect, Plan, stop, go, fetch, own, in-state, moved, faulted, child}
+use Rattle.semantics.specs.Footprint.{Grant, denied, granted, child-modes}
+use Rattle.semantics.specs.Plan.{wrap, unless-fault, plan-load, plan-store, plan-wait, passed-over, child-number, plan-spawn, plan-instruction, step-weight, at-end, plan-start, plan-step, plan-end, Action, start, step, end, plan}
+use Rattle.semantics.specs.Sound.{In, RegistersSound, TaskSound, rank}
+use Rattle.semantics.proofs.Order.{and-left, and-right}
+use Rattle.semantics.proofs.Modes.{not-zero}
+use Rattle.semantics.proofs.Fair.{not-at-end}
+use Rattle.semantics.proofs.SoundModes.{fault-most, registers-set, GrantSound, child-sound}
+
+-- A task just made.
+pub record NewSound (c : Context) (t : Task) : Type 0 where
+  pub task : TaskSound c t
+  pub unranked : rank t ≡ 0
+  pub unpaid : t .weight ≡ 0
+
+abbrev pub SmallEdit : Edit → Type 0
+SmallEdit keep = Unit {0}
+SmallEdit (put a v) = v < 2 ^ 32
+
+pub record EffectSound (c : Context) (most : ℕ) (t : Task) (e : Effect) : Type 0 where
+  pub task : TaskSound c (e .task)
+  pub alive : e .task .state ≡ 0 → ⊥
+  pub ranked : rank (e .task) ≡ suc (rank t)
+  pub paid : e .task .weight ≡ t .weight
+  pub edit : SmallEdit (e .edit)
+  pub weight : e .weight ≤ most
+  pub made : (x : Numbered) → In x (e .made) → NewSound c (x .task)
+  pub left : e .leaves ≡ true → e .task .state ≡ 3
+
+abbrev pub PlanSound : Context → ℕ → Task → Plan → Type 0
+PlanSound c most t (stop k) = Unit {0}
+PlanSound c most t (go gs e) = EffectSound c most t e
+PlanSound c most t (fetch a f) = (v : ℕ) → v < 2 ^ 32 → EffectSound c most t (f v)
+
+wrapped : (x : ℕ) → wrap x < 2 ^ 32
+wrapped x = mod-lt x (omega arith)
+
+passed-most : (x b : ℕ) → passed-over x b ≤ b
+unfolding passed-over
+passed-most zero b = omega arith
+passed-most (suc x) b = omega arith
+
+-- a started task that is not at its end
+module _
+    (c : Context) (ok : Accepted (c .list)) (most : ℕ) (light : (place : ℕ) → weight-of c place ≤ most) (n : ℕ) (t : Task)
+    (h : TaskSound c t) (s : t .state ≡ 2) (inside : t .pc < length (body-of (c .list) (t .body))) (clean : t .fault ≡ 0)
+  where
+    size : length (body-of (c .list) (t .body)) ≤ 32
+    size = ok .most-instructions (t .body)
+
+    started : t .state ≡ 0 → ⊥
+    started q = omega arith
+
+    moved-sound :
+        (k : ℕ) (rs : List ℕ) → 0 < k → t .pc + k ≤ length (body-of (c .list) (t .body)) → RegistersSound rs
+        → TaskSound c (moved k rs t)
+    moved-sound k rs p l q =
+        let e = h .early clean in
+        let z = size in
+        record {
+          state = h .state;
+          body = h .body;
+          pc = l;
+          registers = q;
+          modes = h .modes;
+          steps = omega arith;
+          early = λ _. omega arith;
+          fault = h .fault;
+          blank = λ x. absurd (started x);
+        }
+
+    fault-sound : (k : ℕ) → k ≤ 3 → (k ≡ 0 → ⊥) → TaskSound c (faulted k t)
+    fault-sound k p q =
+        let e = h .early clean in
+        let z = size in
+        record {
+          state = h .state;
+          body = h .body;
+          pc = h .pc;
+          registers = h .registers;
+          modes = h .modes;
+          steps = omega arith;
+          early = λ x. absurd (q x);
+          fault = p;
+          blank = λ x. absurd (started x);
+        }
+
+    rank-on : (k : ℕ) (rs : List ℕ) → rank (moved k rs t) ≡ suc (rank t)
+    unfolding rank
+    rank-on k rs = omega arith
+
+    rank-fault : (k : ℕ) → rank (faulted k t) ≡ suc (rank t)
+    unfolding rank
+    rank-fault k = omega arith
+
+    on-sound :
+        (w k : ℕ) (rs : List ℕ) → w ≤ most → 0 < k → t .pc + k ≤ length (body-of (c .list) (t .body))
+        → RegistersSound rs → EffectSound c most t (own w (moved k rs t))
+    on-sound w k rs m p l q =
+        record {
+          task = moved-sound k rs p l q;
+          alive = started;
+          ranked = rank-on k rs;
+          paid = refl;
+          edit = tt;
+          weight = m;
+          made = λ x i. absurd i;
+          left = λ x. absurd (false≢true x);
+        }
+
+    set-on : (w a v : ℕ) → w ≤ most → v < 2 ^ 32 → EffectSound c most t (own w (moved 1 (set (t .registers) a v) t))
+    set-on w a v m q = on-sound w 1 (set (t .registers) a v) m (omega arith) (omega arith) (registers-set (t .registers) a v (h .registers) q)
+
+    fails-sound : (w k : ℕ) → w ≤ most → k ≤ 3 → (k ≡ 0 → ⊥) → EffectSound c most t (own w (faulted k t))
+    fails-sound w k m p q =
+        record {
+          task = fault-sound k p q;
+          alive = started;
+          ranked = rank-fault k;
+          paid = refl;
+          edit = tt;
+          weight = m;
+          made = λ x i. absurd i;
+          left = λ x. absurd (false≢true x);
+        }
+
+    fault-or : (f w : ℕ) (p : Plan) → w ≤ most → f ≤ 2 → PlanSound c most t p → PlanSound c most t (unless-fault f w t p)
+    unfolding unless-fault
+    fault-or zero w p m l q = q
+    fault-or (suc k) w p m l q = fails-sound w (suc k) m (omega arith) (not-zero k)
+
+    spawn-sound :
+        (w s : ℕ) (g : Grant) → w ≤ most → s < length (c .list .bodies) → GrantSound (c .list .locations) g
+        → PlanSound c most t (plan-spawn c w n t s g)
+    unfolding plan-spawn
+    spawn-sound w s (denied k) m l q = fails-sound w k m (q .0) (q .1)
+    spawn-sound w s (granted ms) m l q =
+        record {
+          task = moved-sound 1 (t .registers) (omega arith) (omega arith) (h .registers);
+          alive = started;
+          ranked = rank-on 1 (t .registers);
+          paid = refl;
+          edit = tt;
+          weight = m;
+          made = born;
+          left = λ x. absurd (false≢true x);
+        }
+      where
+        new : NewSound c (child s ms t)
+        new =
+            record {
+              task =
+                  record {
+                    state = omega arith;
+                    body = l;
+                    pc = omega arith;
+                    registers = h .registers;
+                    modes = q;
+                    steps = omega arith;
+                    early = λ _. omega arith;
+                    fault = omega arith;
+                    blank = λ x. absurd (not-zero 0 x);
+                  };
+              unranked = unfold rank in refl;
+              unpaid = refl;
+            }
+
+        born :
+            (x : Numbered) → In x (record { number = child-number c n t; task = child s ms t } ∷ [])
+            → NewSound c (x .task)
+        born x (inl p) = subst (λ y. NewSound c (y .task)) (sym p) new
+        born x (inr p) = absurd p
+
+    instruction-sound :
+        (w : ℕ) → w ≤ most → (i : Instruction) → instruction-ok (scope-of (c .list) (t .body) (t .pc)) i ≡ true
+        → PlanSound c most t (plan-instruction c w n t i)
+    unfolding plan-instruction plan-load plan-store plan-wait instruction-ok
+    instruction-sound w m (Const a v) q = set-on w a (wrap v) m (wrapped v)
+    instruction-sound w m (Add a x y) q = set-on w a _ m (wrapped (register t x + register t y))
+    instruction-sound w m (Sub a x y) q = set-on w a _ m (wrapped (register t x + 2 ^ 32 - register t y))
+    instruction-sound w m (Less a x y) q = set-on w a _ m (bit (ltb (register t x) (register t y)))
+      where
+        bit : (b : Bool) → cond b 1 0 < 2 ^ 32
+        bit true = omega arith
+        bit false = omega arith
+    instruction-sound w m (Load a x) q =
+        fault-or (access-fault (mode-of t (register t x)) 1) w _ m (fault-most (mode-of t (register t x)) 1) (λ v k. set-on w a v m k)
+    instruction-sound w m (Store a x) q =
+        fault-or (access-fault (mode-of t (register t a)) 2) w _ m (fault-most (mode-of t (register t a)) 2)
+        (record {
+          task = moved-sound 1 (t .registers) (omega arith) (omega arith) (h .registers);
+          alive = started;
+          ranked = rank-on 1 (t .registers);
+          paid = refl;
+          edit = h .registers .small x;
+          weight = m;
+          made = λ y i. absurd i;
+          left = λ y. absurd (false≢true y);
+        })
+    instruction-sound w m (Skip a b) q =
+        let room = leb-true (t .pc + 1 + b) (length (body-of (c .list) (t .body))) (and-right (Decode.register a) _ q) in
+        let p = passed-most (register t a) b in
+        on-sound w (1 + passed-over (register t a) b) (t .registers) m (omega arith) (omega arith) (h .registers)
+    instruction-sound w m (Spawn s f) q =
+        spawn-sound w s (child-modes t (footprint-of (c .list) f)) m
+        (ltb-true s (length (c .list .bodies))
+        (and-right (ltb (t .body) s) (ltb s (length (c .list .bodies)))
+        (and-left (ltb (t .body) s && ltb s (length (c .list .bodies))) _ q)))
+        (child-sound (c .list .locations) t (h .modes) (footprint-of (c .list) f))
+    instruction-sound w m (Wait a) q =
+        fault-or (access-fault (mode-of t (register t a)) (mode-of t (register t a))) w _ m (fault-most (mode-of t (register t a)) _)
+        (on-sound w 1 (t .registers) m (omega arith) (omega arith) (h .registers))
+
+module _
+    (c : Context) (ok : Accepted (c .list)) (most : ℕ) (light : (place : ℕ) → weight-of c place ≤ most) (n : ℕ) (t : Task)
+    (h : TaskSound c t)
+  where
+    no-fault : at-end c t ≡ false → t .fault ≡ 0
+    unfolding at-end
+    no-fault q = eqb-true (t .fault) 0 (not-false (eqb (t .fault) 0) (second (leb (length (body-of (c .list) (t .body))) (t .pc)) _ q))
+      where
+        second : (a b : Bool) → (a || b) ≡ false → b ≡ false
+        second true b p = absurd (false≢true (sym p))
+        second false b p = p
+
+    cond-sound :
+        (b : Bool) (p q : Plan) → (b ≡ true → PlanSound c most t p) → (b ≡ false → PlanSound c most t q)
+        → PlanSound c most t (cond b p q)
+    cond-sound true p q x y = x refl
+    cond-sound false p q x y = y refl
+
+    -- a record in another state
+    state-sound : (k : ℕ) → k ≤ 3 → (k ≡ 0 → ⊥) → TaskSound c (in-state k t)
+    state-sound k p q =
+        record {
+          state = p;
+          body = h .body;
+          pc = h .pc;
+          registers = h .registers;
+          modes = h .modes;
+          steps = h .steps;
+          early = h .early;
+          fault = h .fault;
+          blank = λ x. absurd (q x);
+        }
+
+    rank-start : t .state ≡ 1 → rank (in-state 2 t) ≡ suc (rank t)
+    unfolding rank
+    rank-start s =
+        let z : _≡_ {A = ℕ} (getD (0 ∷ 0 ∷ 1 ∷ 2 ∷ []) (t .state) 0) 0 = ap {B = ℕ} (λ k. getD (0 ∷ 0 ∷ 1 ∷ 2 ∷ []) k 0) s in omega arith
+
+    rank-end : t .state ≡ 2 → rank (in-state 3 t) ≡ suc (rank t)
+    unfolding rank
+    rank-end s =
+        let z : _≡_ {A = ℕ} (getD (0 ∷ 0 ∷ 1 ∷ 2 ∷ []) (t .state) 0) 1 = ap {B = ℕ} (λ k. getD (0 ∷ 0 ∷ 1 ∷ 2 ∷ []) k 0) s in omega arith
+
+    pub plan-sound : (a : Action) → PlanSound c most t (plan c a n t)
+    unfolding plan plan-start plan-step plan-end step-weight
+    plan-sound start =
+        cond-sound (eqb (t .state) 1) _ _
+        (λ q.
+        record {
+          task = state-sound 2 (omega arith) (not-zero 1);
+          alive = not-zero 1;
+          ranked = rank-start (eqb-true (t .state) 1 q);
+          paid = refl;
+          edit = tt;
+          weight = light 0;
+          made = λ x i. absurd i;
+          left = λ x. absurd (false≢true x);
+        })
+        (λ _. tt)
+    plan-sound step =
+        cond-sound (eqb (t .state) 2) _ _
+        (λ q.
+        cond-sound (at-end c t) _ _ (λ _. tt)
+        (λ p.
+        let inside = not-at-end c n t p in
+        instruction-sound c ok most light n t h (eqb-true (t .state) 2 q) inside (no-fault p) _ (light _) _
+        (ok .instructions (t .body) (t .pc) inside)))
+        (λ _. tt)
+    plan-sound end =
+        cond-sound (eqb (t .state) 2) _ _
+        (λ q.
+        cond-sound (at-end c t) _ _
+        (λ _.
+        record {
+          task = state-sound 3 (omega arith) (not-zero 2);
+          alive = not-zero 2;
+          ranked = rank-end (eqb-true (t .state) 2 q);
+          paid = refl;
+          edit = tt;
+          weight = light 1;
+          made = λ x i. absurd i;
+          left = λ _. refl;
+        })
+        (λ _. tt))
+        (λ _. tt)

@@ -1,0 +1,175 @@
+-- The guards over the whole order are document 01's words on queues: "all ahead of it in that queue have mode 1", "none is
+-- ahead". Assumes nothing.
+use Prim.Native.Nat.{ℕ, zero, suc, _+_, _≤_}
+use mathlib.Core.Path.{_≡_, refl, sym, ap, subst, _∙_}
+use mathlib.Core.List.{List, [], _∷_}
+use mathlib.Core.Bool.{Bool, true, false, not}
+use mathlib.Core.Logic.{inl, inr}
+use native.Mathlib.Decide.{ℕ-discrete}
+use native.Mathlib.Nat.{add-zero, zero-add}
+use native.Mathlib.Omega.{arith}
+use lib.ListN.{length, getD}
+use lib.Dec.{eqb, eqb·suc-zero}
+use borrow.Author.Tests.{eq-eqb, ne-eqb}
+use Rattle.semantics.specs.Run.{Run, mode-of, task-of}
+use Rattle.semantics.specs.Access.{Access, reads, writes, every, only, ahead, queue, may-read, may-write, compatible, allowed}
+use Rattle.semantics.specs.Plan.{needs-from}
+use Rattle.semantics.specs.Sound.{In}
+use Rattle.semantics.proofs.Order.{every-in, in-every, ahead-self, ahead-other}
+use Rattle.semantics.proofs.Modes.{not-zero}
+
+only-keep : (p : ℕ → Bool) (k : ℕ) (o : List ℕ) → p k ≡ true → only p (k ∷ o) ≡ k ∷ only p o
+unfolding only
+only-keep p k o h = rw h refl
+
+only-drop : (p : ℕ → Bool) (k : ℕ) (o : List ℕ) → p k ≡ false → only p (k ∷ o) ≡ only p o
+unfolding only
+only-drop p k o h = rw h refl
+
+compatible-reading : (m : ℕ) → (m ≡ 0 → ⊥) → compatible m 1 ≡ eqb m 1
+unfolding compatible
+compatible-reading zero h = absurd (h refl)
+compatible-reading (suc zero) h = refl
+compatible-reading (suc (suc zero)) h = refl
+compatible-reading (suc (suc (suc m))) h = sym (ne-eqb (suc (suc (suc m))) 1 (λ q. omega arith))
+
+compatible-writing : (m : ℕ) → (m ≡ 0 → ⊥) → compatible m 2 ≡ false
+unfolding compatible
+compatible-writing zero h = absurd (h refl)
+compatible-writing (suc zero) h = refl
+compatible-writing (suc (suc zero)) h = refl
+compatible-writing (suc (suc (suc m))) h = refl
+
+-- over any modes of the tasks at one location
+module _ (mode : ℕ → ℕ) (n : ℕ) (own : mode n ≡ 0 → ⊥) where
+  is-present : (k : ℕ) → (mode k ≡ 0 → ⊥) → not (eqb (mode k) 0) ≡ true
+  is-present k h = rw (ne-eqb (mode k) 0 h) refl
+
+  is-absent : (k : ℕ) → mode k ≡ 0 → not (eqb (mode k) 0) ≡ false
+  is-absent k h = rw (eq-eqb (mode k) 0 h) refl
+
+  read-words :
+      (o : List ℕ)
+      → every (λ k. compatible (mode k) 1) (ahead n o) ≡ every (λ k. eqb (mode k) 1) (ahead n (only (λ k. not (eqb (mode k) 0)) o))
+  read-words [] = unfold ahead only every in refl
+  read-words (k ∷ o) = sort (read-words o) (ℕ-discrete k n) (ℕ-discrete (mode k) 0)
+    where
+      queued : ℕ → Bool
+      queued j = not (eqb (mode j) 0)
+
+      reading : ℕ → Bool
+      reading j = eqb (mode j) 1
+
+      sort :
+          every (λ k. compatible (mode k) 1) (ahead n o) ≡ every reading (ahead n (only queued o)) → Dec (k ≡ n) → Dec (mode k ≡ 0)
+          → every (λ k. compatible (mode k) 1) (ahead n (k ∷ o)) ≡ every reading (ahead n (only queued (k ∷ o)))
+      sort ih (yes p) z =
+          rw (ahead-self n k o p, only-keep queued k o (is-present k (λ q. own (ap mode (sym p) ∙ q))), ahead-self n k (only queued o) p)
+          (unfold every in refl)
+      sort ih (no p) (yes z) =
+          rw (ahead-other n k o p, only-drop queued k o (is-absent k z)) (unfold every compatible in rw z ih)
+      sort ih (no p) (no z) =
+          rw (ahead-other n k o p, only-keep queued k o (is-present k z), ahead-other n k (only queued o) p)
+          (unfold every in rw (compatible-reading (mode k) z, ih) refl)
+
+  write-words :
+      (o : List ℕ)
+      → every (λ k. compatible (mode k) 2) (ahead n o) ≡ eqb (length (ahead n (only (λ k. not (eqb (mode k) 0)) o))) 0
+  write-words [] = unfold ahead only every in refl
+  write-words (k ∷ o) = sort (write-words o) (ℕ-discrete k n) (ℕ-discrete (mode k) 0)
+    where
+      queued : ℕ → Bool
+      queued j = not (eqb (mode j) 0)
+
+      sort :
+          every (λ k. compatible (mode k) 2) (ahead n o) ≡ eqb (length (ahead n (only queued o))) 0 → Dec (k ≡ n) → Dec (mode k ≡ 0)
+          → every (λ k. compatible (mode k) 2) (ahead n (k ∷ o)) ≡ eqb (length (ahead n (only queued (k ∷ o)))) 0
+      sort ih (yes p) z =
+          rw (ahead-self n k o p, only-keep queued k o (is-present k (λ q. own (ap mode (sym p) ∙ q))), ahead-self n k (only queued o) p)
+          (unfold every in refl)
+      sort ih (no p) (yes z) =
+          rw (ahead-other n k o p, only-drop queued k o (is-absent k z)) (unfold every compatible in rw z ih)
+      sort ih (no p) (no z) =
+          rw (ahead-other n k o p, only-keep queued k o (is-present k z), ahead-other n k (only queued o) p)
+          (unfold every in rw (compatible-writing (mode k) z, eqb·suc-zero (length (ahead n (only queued o)))) refl)
+
+module _ (r : Run) (n a : ℕ) (own : mode-of (task-of r n) a ≡ 0 → ⊥) where
+  pub read-wording : allowed r n (reads a) ≡ may-read r n a
+  unfolding allowed may-read queue
+  read-wording = read-words (λ k. mode-of (task-of r k) a) n own (r .order)
+
+  pub write-wording : allowed r n (writes a) ≡ may-write r n a
+  unfolding allowed may-write queue
+  write-wording = write-words (λ k. mode-of (task-of r k) a) n own (r .order)
+
+-- what a start needs: each location with a mode that isn't 0, in that mode
+needs-complete :
+    (ms : List ℕ) (b a m : ℕ) → getD ms a 0 ≡ suc m → In (record { location = b + a; mode = suc m }) (needs-from b ms)
+unfolding needs-from
+needs-complete [] b a m q = let bad : ⊥ = omega arith in absurd bad
+needs-complete (zero ∷ ms) b zero m q = let bad : ⊥ = omega arith in absurd bad
+needs-complete (zero ∷ ms) b (suc a) m q =
+    let shift : suc b + a ≡ b + suc a = omega arith in
+    subst (λ x. In (record { location = x; mode = suc m }) (needs-from (suc b) ms)) shift (needs-complete ms (suc b) a m q)
+needs-complete (suc x ∷ ms) b zero m q = inl (λ i. record { location = add-zero b i; mode = sym q i })
+needs-complete (suc x ∷ ms) b (suc a) m q =
+    let shift : suc b + a ≡ b + suc a = omega arith in
+    inr (subst (λ x. In (record { location = x; mode = suc m }) (needs-from (suc b) ms)) shift (needs-complete ms (suc b) a m q))
+
+-- an access that a start needs
+abbrev Needed : List ℕ → ℕ → Access → Type 0
+Needed ms b g = (a : ℕ) × (g .location ≡ b + a) × (g .mode ≡ getD ms a 0) × (g .mode ≡ 0 → ⊥)
+
+needs-later : (m : ℕ) (ms : List ℕ) (b : ℕ) (g : Access) → Needed ms (suc b) g → Needed (m ∷ ms) b g
+needs-later m ms b g h = (suc (h .0), h .1 ∙ omega arith, h .2, h .3)
+
+needs-sound : (ms : List ℕ) (b : ℕ) (g : Access) → In g (needs-from b ms) → Needed ms b g
+unfolding needs-from
+needs-sound [] b g i = absurd i
+needs-sound (zero ∷ ms) b g i = needs-later 0 ms b g (needs-sound ms (suc b) g i)
+needs-sound (suc m ∷ ms) b g (inl q) =
+    (0, ap (λ x. x .location) q ∙ sym (add-zero b), ap (λ x. x .mode) q, λ z. not-zero m (sym (ap (λ x. x .mode) q) ∙ z))
+needs-sound (suc m ∷ ms) b g (inr i) = needs-later (suc m) ms b g (needs-sound ms (suc b) g i)
+
+-- "the job may read each entry of mode 1 and write each of mode 2"
+abbrev pub MayStart : Run → ℕ → Type 0
+MayStart r n =
+    (a : ℕ)
+    → (mode-of (task-of r n) a ≡ 1 → may-read r n a ≡ true) × (mode-of (task-of r n) a ≡ 2 → may-write r n a ≡ true)
+
+module _ (r : Run) (n : ℕ) where
+  pub start-wording : every (allowed r n) (needs-from 0 (task-of r n .modes)) ≡ true → MayStart r n
+  start-wording h a =
+      ((λ q. sym (read-wording r n a (λ z. one-not q z)) ∙ need 0 q), (λ q. sym (write-wording r n a (λ z. two-not q z)) ∙ need 1 q))
+    where
+      one-not : mode-of (task-of r n) a ≡ 1 → mode-of (task-of r n) a ≡ 0 → ⊥
+      one-not p q = omega arith
+
+      two-not : mode-of (task-of r n) a ≡ 2 → mode-of (task-of r n) a ≡ 0 → ⊥
+      two-not p q = omega arith
+
+      need : (m : ℕ) → mode-of (task-of r n) a ≡ suc m → allowed r n (record { location = a; mode = suc m }) ≡ true
+      need m q =
+          every-in (allowed r n) (record { location = a; mode = suc m }) (needs-from 0 (task-of r n .modes)) h
+          (subst (λ x. In (record { location = x; mode = suc m }) (needs-from 0 (task-of r n .modes))) (zero-add a)
+          (needs-complete (task-of r n .modes) 0 a m q))
+
+  pub wording-starts :
+      ((a : ℕ) → mode-of (task-of r n) a ≤ 2) → MayStart r n
+      → every (allowed r n) (needs-from 0 (task-of r n .modes)) ≡ true
+  wording-starts most h = in-every (allowed r n) (needs-from 0 (task-of r n .modes)) each
+    where
+      sort :
+          (a m : ℕ) → mode-of (task-of r n) a ≡ m → (m ≡ 0 → ⊥) → m ≤ 2
+          → allowed r n (record { location = a; mode = m }) ≡ true
+      sort a zero q z l = absurd (z refl)
+      sort a (suc zero) q z l = read-wording r n a (λ p. z (sym q ∙ p)) ∙ h a .0 q
+      sort a (suc (suc zero)) q z l = write-wording r n a (λ p. z (sym q ∙ p)) ∙ h a .1 q
+      sort a (suc (suc (suc m))) q z l = let bad : ⊥ = omega arith in absurd bad
+
+      each : (g : Access) → In g (needs-from 0 (task-of r n .modes)) → allowed r n g ≡ true
+      each g i =
+          let k = needs-sound (task-of r n .modes) 0 g i in
+          let at : g .location ≡ k .0 = k .1 ∙ zero-add (k .0) in
+          let mode : mode-of (task-of r n) (g .location) ≡ g .mode = ap (mode-of (task-of r n)) at ∙ sym (k .2) in
+          sort (g .location) (g .mode) mode (k .3) (subst (λ x. x ≤ 2) mode (most (g .location)))

@@ -1,0 +1,73 @@
+-- Who may read and write: document 01, "Jobs, order and queues", and the faults of an access.
+use Prim.Native.Nat.{ℕ}
+use mathlib.Core.List.{List, [], _∷_}
+use mathlib.Core.Bool.{Bool, true, false, cond, not, _&&_}
+use lib.ListN.{length, getD}
+use lib.Dec.{eqb}
+use Rattle.semantics.specs.Run.{Run, mode-of, task-of}
+
+-- A location and the mode in which it is asked for.
+pub record Access : Type 0 where
+  pub location : ℕ
+  pub mode : ℕ
+
+abbrev pub reads : ℕ → Access
+reads a = record { location = a; mode = 1 }
+
+abbrev pub writes : ℕ → Access
+writes a = record { location = a; mode = 2 }
+
+-- all items pass a test
+unfoldable pub every : {A : Type 0} → (A → Bool) → List A → Bool
+every test [] = true
+every test (a ∷ l) = test a && every test l
+
+-- the items that pass a test
+unfoldable pub only : {A : Type 0} → (A → Bool) → List A → List A
+only test [] = []
+only test (a ∷ l) = let rest = only test l in cond (test a) (a ∷ rest) rest
+
+-- those ahead of task n: all up to its place
+unfoldable pub ahead : ℕ → List ℕ → List ℕ
+ahead n [] = []
+ahead n (k ∷ ks) = let rest = ahead n ks in cond (eqb k n) [] (k ∷ rest)
+
+-- "The queue of an entry is the order with only the jobs whose mode there isn't 0."
+unfoldable pub queue : Run → ℕ → List ℕ
+queue r a = only (λ k. not (eqb (mode-of (task-of r k) a) 0)) (r .order)
+
+-- "A job may read an entry when all ahead of it in that queue have mode 1."
+unfoldable pub may-read : Run → ℕ → ℕ → Bool
+may-read r n a = every (λ k. eqb (mode-of (task-of r k) a) 1) (ahead n (queue r a))
+
+-- "It may write when none is ahead."
+unfoldable pub may-write : Run → ℕ → ℕ → Bool
+may-write r n a = eqb (length (ahead n (queue r a))) 0
+
+-- The same by the whole order, in a table: which mode may stand ahead of which access. A row for each mode ahead (none, read,
+-- write), a column for each mode asked for. Laws `read-wording` and `write-wording` (proofs/Wording.antt): for a task
+-- with a place in the queue this is what the two definitions above say.
+abbrev pub compatibility : List (List Bool)
+compatibility =
+    (true ∷ true ∷ true ∷ []) ∷
+    (true ∷ true ∷ false ∷ []) ∷
+    (true ∷ false ∷ false ∷ []) ∷ []
+
+unfoldable pub compatible : ℕ → ℕ → Bool
+compatible mode asked = getD (getD compatibility mode []) asked false
+
+-- all ahead of task n may stand ahead of this access
+unfoldable pub allowed : Run → ℕ → Access → Bool
+allowed r n g =
+    every (λ k. compatible (mode-of (task-of r k) (g .location)) (g .mode)) (ahead n (r .order))
+
+-- The fault of an access, 0 for none: "1: entry not in the job's footprint (C and above included). 2: store, or a write line,
+-- where its own mode is read." A row for each own mode, a column for each mode asked for.
+abbrev pub access-faults : List (List ℕ)
+access-faults =
+    (1 ∷ 1 ∷ 1 ∷ []) ∷
+    (0 ∷ 0 ∷ 2 ∷ []) ∷
+    (0 ∷ 0 ∷ 0 ∷ []) ∷ []
+
+unfoldable pub access-fault : ℕ → ℕ → ℕ
+access-fault own asked = getD (getD access-faults own []) asked 1

@@ -1,0 +1,69 @@
+-- What a worked case of document 01 says, as a test that computes.
+use Prim.Native.Nat.{ℕ}
+use mathlib.Core.List.{List, [], _∷_}
+use mathlib.Core.Bool.{Bool, true, false, _&&_}
+use lib.Dec.{eqb}
+use Rattle.tasklist.specs.TaskList.{TaskList, task-count}
+use Rattle.tasklist.specs.Decode.{Decoded, refused, accepted, decode}
+use Rattle.semantics.specs.Run.{Run, Context, context, task-of, initial}
+use Rattle.semantics.specs.Access.{every}
+use Rattle.semantics.specs.Call.{Call, decide, after, after-all}
+use Rattle.semantics.specs.Sequential.{sequential}
+use Rattle.semantics.specs.Operations.{queue-places}
+use Rattle.semantics.specs.Answers.{outcome-number}
+
+-- A fact about a run.
+pub data Fact : Type 0 where
+  memory-is : List ℕ → Fact
+  order-is : List ℕ → Fact
+  -- the places that queue writes for a location
+  queue-is : ℕ → List ℕ → Fact
+  -- a task's fault
+  fault-is : ℕ → ℕ → Fact
+  calls-are : ℕ → Fact
+  weight-is : ℕ → Fact
+
+pub data Case : Type 0 where
+  -- the facts that hold after the sequential run of a list and a memory
+  by-hand : TaskList → List ℕ → List Fact → Case
+  -- what calls from the initial run answer, each 0 or its refusal, and the facts that hold after them
+  by-calls : TaskList → List ℕ → List Call → List ℕ → List Fact → Case
+  -- these bytes are a list of so many tasks
+  tasks-in : List ℕ → ℕ → Case
+  -- these bytes are refused with this number
+  refused-with : List ℕ → ℕ → Case
+
+unfoldable pub same : List ℕ → List ℕ → Bool
+same [] [] = true
+same [] (y ∷ ys) = false
+same (x ∷ xs) [] = false
+same (x ∷ xs) (y ∷ ys) = eqb x y && same xs ys
+
+unfoldable pub is-so : Run → Fact → Bool
+is-so r (memory-is m) = same (r .memory) m
+is-so r (order-is o) = same (r .order) o
+is-so r (queue-is a q) = same (queue-places r a) q
+is-so r (fault-is n k) = eqb (task-of r n .fault) k
+is-so r (calls-are k) = eqb (r .calls) k
+is-so r (weight-is w) = eqb (r .weight) w
+
+-- the answers of calls, one after another
+unfoldable pub answers : Context → Run → List Call → List ℕ
+answers c r [] = []
+answers c r (b ∷ bs) = outcome-number (decide c r b) ∷ answers c (after c r b) bs
+
+unfoldable pub has-tasks : ℕ → Decoded → Bool
+has-tasks n (refused k) = false
+has-tasks n (accepted l) = eqb (task-count l 0) n
+
+unfoldable pub is-refused : ℕ → Decoded → Bool
+is-refused n (refused k) = eqb k n
+is-refused n (accepted l) = false
+
+unfoldable pub holds : Case → Bool
+holds (by-hand l m facts) = every (is-so (sequential (context l) m)) facts
+holds (by-calls l m bs ks facts) =
+    let r = initial (context l) m in
+    same (answers (context l) r bs) ks && every (is-so (after-all (context l) r bs)) facts
+holds (tasks-in bytes n) = has-tasks n (decode bytes)
+holds (refused-with bytes k) = is-refused k (decode bytes)

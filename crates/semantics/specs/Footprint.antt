@@ -1,0 +1,51 @@
+-- What a footprint gives a spawned task: document 01, "Each footprint" and the faults of a spawn.
+use Prim.Native.Nat.{ℕ, zero, suc}
+use mathlib.Core.List.{List, [], _∷_, _++_}
+use lib.ListN.{getD, set}
+use Rattle.tasklist.specs.declared.Line.{Line}
+use Rattle.semantics.specs.Run.{Task, mode-of, register, no-modes}
+use Rattle.semantics.specs.Access.{Access, access-fault}
+
+-- "Kind 0 reads and 1 writes entry `value`; 2 reads and 3 writes the entry whose number is in register `value`." What one
+-- line names, in the order in which it is tested.
+unfoldable pub targets : Task → Line → List Access
+targets t l =
+    let place = getD (l .value ∷ l .value ∷ register t (l .value) ∷ register t (l .value) ∷ []) (l .kind) 0 in
+    record { location = place; mode = getD (1 ∷ 2 ∷ 1 ∷ 2 ∷ []) (l .kind) 0 } ∷ []
+
+-- what all lines name, line by line
+unfoldable pub all-targets : Task → List Line → List Access
+all-targets t [] = []
+all-targets t (l ∷ ls) = targets t l ++ all-targets t ls
+
+-- What a footprint gives a child: modes, or the fault of the spawn.
+pub data Grant : Type 0 where
+  denied : ℕ → Grant
+  granted : List ℕ → Grant
+
+-- "3: a footprint names an entry twice, in any modes"
+unfoldable pub twice : ℕ → ℕ
+twice zero = 0
+twice (suc m) = 3
+
+-- "Lines are tested in turn: 1, 2, then 3 against earlier lines."
+unfoldable pub first-fault : ℕ → ℕ → ℕ
+first-fault zero k = k
+first-fault (suc j) k = suc j
+
+-- a fault, 0 for none, denies
+unfoldable pub unless-denied : ℕ → Grant → Grant
+unless-denied zero g = g
+unless-denied (suc k) g = denied (suc k)
+
+-- the modes granted so far, and those that these accesses add, by the spawner's own modes
+unfoldable pub grant : Task → List ℕ → List Access → Grant
+grant t so-far [] = granted so-far
+grant t so-far (g ∷ gs) =
+    unless-denied
+    (first-fault (access-fault (mode-of t (g .location)) (g .mode)) (twice (getD so-far (g .location) 0)))
+    (grant t (set so-far (g .location) (g .mode)) gs)
+
+-- "its footprint's modes": what these lines give a child of task t
+unfoldable pub child-modes : Task → List Line → Grant
+child-modes t ls = grant t no-modes (all-targets t ls)

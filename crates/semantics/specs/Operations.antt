@@ -1,0 +1,43 @@
+-- What else is asked: to open a run, to run a list by hand, one task's record, a location's queue. Document 01, "Calls" and
+-- "Refused, by operation".
+use Prim.Native.Nat.{ℕ, _+_, _*_}
+use mathlib.Core.List.{List, map}
+use mathlib.Core.Bool.{cond}
+use lib.ListN.{length}
+use lib.Dec.{leb, ltb, eqb}
+use Rattle.tasklist.specs.Decode.{Decoded, refused, accepted, decode}
+use Rattle.semantics.specs.Run.{Task, Run, Context, context, mode-of, task-of, initial}
+use Rattle.semantics.specs.Access.{queue}
+use Rattle.semantics.specs.Sequential.{sequential}
+
+-- A refusal's number, or what was asked for.
+pub data Asked (A : Type 0) : Type 0 where
+  denies : ℕ → Asked A
+  gives : A → Asked A
+
+-- "Open and hand run: as check, then 8, library length not C."
+unfoldable pub with-list : {A : Type 0} → Decoded → List ℕ → (Context → A) → Asked A
+with-list (refused k) memory f = denies k
+with-list (accepted l) memory f = cond (eqb (length memory) (l .locations)) (gives (f (context l))) (denies 8)
+
+-- "A fresh run is what open gives when it accepts"
+unfoldable pub open-asked : List ℕ → List ℕ → Asked Run
+open-asked bytes memory = with-list (decode bytes) memory (λ c. initial c memory)
+
+-- "The hand run takes what open takes"
+unfoldable pub sequential-asked : List ℕ → List ℕ → Asked Run
+sequential-asked bytes memory = with-list (decode bytes) memory (λ c. sequential c memory)
+
+-- "Record gives one job's record."; "Record: 9."
+unfoldable pub record-asked : Run → ℕ → Asked Task
+record-asked r n = cond (ltb n 128) (gives (task-of r n)) (denies 9)
+
+-- "Queue writes, per job from the front, number + 256 × mode into 16-bit places."
+unfoldable pub queue-places : Run → ℕ → List ℕ
+queue-places r a = map (λ k. k + 256 * mode-of (task-of r k) a) (queue r a)
+
+-- "Queue: 16 entry not below C; 17 lent slice too short": what is written into a slice of `room` places
+unfoldable pub queue-asked : Context → Run → ℕ → ℕ → Asked (List ℕ)
+queue-asked c r a room =
+    let places = queue-places r a in
+    cond (ltb a (c .list .locations)) (cond (leb (length places) room) (gives places) (denies 17)) (denies 16)

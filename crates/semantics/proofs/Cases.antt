@@ -12,6 +12,7 @@ use Rattle.tasklist.specs.Fields.{field, is-tag, tag, in-range, number, counted
 use Rattle.tasklist.specs.Decode.{head-numbers, head, line-limit, line-ok, is-line, line, footprint, forms, form, instruction-ok, is-instruction, instruction, body, list-behind, sized, finish, decode}
 use Rattle.tasklist.specs.Decode
 use Rattle.tasklist.specs.Encode.{instruction-fields}
+use Rattle.tasklist.proofs.Cases.{P}
 use Rattle.semantics.specs.Run.{no-modes, never, fixed-weights, weight-of, root-modes, root, initial}
 use Rattle.semantics.specs.Access.{every, only, ahead, queue, compatible, allowed, access-fault}
 use Rattle.semantics.specs.Footprint.{targets, all-targets, twice, first-fault, unless-denied, grant, child-modes}
@@ -21,20 +22,6 @@ use Rattle.semantics.specs.Sequential.{start-of, step-of, end-of, run-ea
 use Rattle.semantics.specs.Operations.{queue-places}
 use Rattle.semantics.specs.Answers.{outcome-number}
 use Rattle.semantics.specs.Case.{Case, by-hand, by-calls, tasks-in, refused-with, memory-is, order-is, queue-is, fault-is, calls-are, weight-is, same, is-so, answers, has-tasks, is-refused, holds}
-
--- document 01's P: "C = 2, footprint 0 (write 0), footprint 1 (read 0, write 1)"
-abbrev P : TaskList
-P =
-    record {
-      locations = 2;
-      footprints =
-          (record { kind = 1; value = 0 } ∷ []) ∷
-          (record { kind = 0; value = 0 } ∷ record { kind = 1; value = 1 } ∷ []) ∷ [];
-      bodies =
-          (Spawn 1 0 ∷ Spawn 2 1 ∷ []) ∷
-          (Const 1 9 ∷ Store 0 1 ∷ []) ∷
-          (Load 1 0 ∷ Const 2 1 ∷ Store 2 1 ∷ []) ∷ [];
-    }
 
 -- two locations; footprints: read 0; 0 named twice
 abbrev small : List (List Instruction) → TaskList

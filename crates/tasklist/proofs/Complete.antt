@@ -22,6 +22,7 @@ use Rattle.tasklist.specs.Accepted.{blank-line, Accepted}
 use Rattle.tasklist.proofs.TakenLaws.{Number}
 use Rattle.tasklist.proofs.ReaderLaws.{HeadRange, decode-behind, finish-whole, sized-few}
 use Rattle.tasklist.proofs.ChainLaws.{header-of}
+use Rattle.tasklist.proofs.WriterLaws.{instruction-length}
 
 -- p takes a from its bytes, whatever stands behind them
 abbrev Reads : {A : Type 0} → (A → List ℕ) → (List ℕ → Taken A) → A → Type 0
@@ -76,23 +77,11 @@ form-reads (Skip a b) h = refl
 form-reads (Spawn a b) h = refl
 form-reads (Wait a) h = refl
 
-pub four-fields : (x : Instruction) → length (instruction-fields x) ≡ 4
-unfolding instruction-fields
-four-fields (Const a v) = refl
-four-fields (Add a b c) = refl
-four-fields (Sub a b c) = refl
-four-fields (Less a b c) = refl
-four-fields (Load a b) = refl
-four-fields (Store a b) = refl
-four-fields (Skip a b) = refl
-four-fields (Spawn a b) = refl
-four-fields (Wait a) = refl
-
 instruction-reads : (at : Scope) (x : Instruction) → const-value x < 65536 → instruction-ok at x ≡ true
     → Reads instruction-fields (instruction at) x
 unfolding instruction is-instruction form-of-fields
 instruction-reads at x small ok =
-    field-reads instruction-fields 4 5 (is-instruction at) x (four-fields x)
+    field-reads instruction-fields 4 5 (is-instruction at) x (instruction-length x)
     (ap (kept (instruction-ok at)) (form-reads x small) ∙ ap (λ (t : Bool). only-if t x) ok)
 
 many-reads : {A : Type 0} (write : A → List ℕ) (item : ℕ → List ℕ → Taken A) (d : A) (l : List A) (i : ℕ) (done : List A) (rest : List ℕ)

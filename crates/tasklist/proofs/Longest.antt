@@ -5,8 +5,6 @@ use mathlib.Core.List.{List, [], _∷_}
 use native.Mathlib.Omega.{arith}
 use native.Mathlib.Nat.{mul-suc}
 use lib.ListN.{length, getD, length-append, replicate}
-use Rattle.tasklist.specs.declared.Line.{Line}
-use Rattle.tasklist.specs.declared.Instruction.{Instruction}
 use Rattle.tasklist.specs.TaskList.{TaskList, blank-instruction, body-of, footprint-of, total, adds, count-body, count-from, counts, task-count}
 use Rattle.tasklist.specs.Fields.{field, is-tag, tag, in-range, number, counted, many, row}
 use Rattle.tasklist.specs.Decode.{head-numbers, head, line-limit, line-ok, is-line, line, footprint, forms, form, register, instruction-ok, is-instruction, instruction, body, list-behind, sized, finish, decode, accepted}
@@ -14,7 +12,7 @@ use Rattle.tasklist.specs.Encode.{instruction-fields, line-fields, joine
 use Rattle.tasklist.specs.Accepted.{blank-line, Accepted}
 use Rattle.tasklist.proofs.Guarantees.{accepted-list}
 use Rattle.tasklist.proofs.RoundTrip.{Bytes, encode-decoded}
-use Rattle.tasklist.proofs.Complete.{four-fields}
+use Rattle.tasklist.proofs.WriterLaws.{footprint-length, body-length}
 
 -- items of at most w bytes each
 joined-most : {A : Type 0} (write : A → List ℕ) (w : ℕ) (d : A) (l : List A) → ((i : ℕ) → length (write (getD l i d)) ≤ w)
@@ -23,14 +21,6 @@ unfolding joined
 joined-most write w d [] h = omega arith
 joined-most write w d (a ∷ l) h =
     omega (arith, h 0, joined-most write w d l (λ i. h (suc i)), length-append (write a) (joined write l), mul-suc w (length l))
-
-footprint-size : (ls : List Line) → length ls ≤ 8 → length (footprint-bytes ls) ≤ 19
-unfolding footprint-bytes line-fields
-footprint-size ls h = omega (arith, joined-most line-fields 2 blank-line ls (λ i. omega arith))
-
-body-size : (is : List Instruction) → length is ≤ 32 → length (body-bytes is) ≤ 131
-unfolding body-bytes
-body-size is h = omega (arith, joined-most instruction-fields 4 blank-instruction is (λ i. omega (arith, four-fields (getD is i blank-instruction))))
 
 -- the bytes of a list within the bounds
 pub encode-size : (l : TaskList) → Accepted l → length (encode l) ≤ 4805
@@ -41,8 +31,8 @@ encode-size l ok =
     omega (
       arith,
       length-append fs bs,
-      joined-most footprint-bytes 19 [] (l .footprints) (λ f. footprint-size (footprint-of l f) (ok .most-lines f)),
-      joined-most body-bytes 131 [] (l .bodies) (λ s. body-size (body-of l s) (ok .most-instructions s)),
+      joined-most footprint-bytes 19 [] (l .footprints) (λ f. omega (arith, footprint-length (footprint-of l f), ok .most-lines f)),
+      joined-most body-bytes 131 [] (l .bodies) (λ s. omega (arith, body-length (body-of l s), ok .most-instructions s)),
     )
 
 pub longest : (b : List ℕ) (l : TaskList) → Bytes b → decode b ≡ accepted l → length b ≤ 4805

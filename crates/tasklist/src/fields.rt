@@ -83,7 +83,8 @@ pub fn limit_of(locations: u8, kind: u8) -> u8
 pub fn take_line(bytes: &[u8], at: usize, locations: u8) -> LineTaken
     ensures { λ r. ⌜ line-taken r (now (bytes .entry)) ≡ line locations (drop at (now (bytes .entry))) ⌝ }
 {
-    if left(bytes, at) < 2 {
+    let rest = left(bytes, at);
+    if rest < 2 {
         return LineTaken::Bad(Refusal::Incomplete);
     }
     let kind = bytes[at];

@@ -170,5 +170,6 @@ pub use access::line_at;
 pub use access::task_count;
 pub use reader::check;
 pub use reader::read;
+pub use reader::refusal_number;
 pub use writer::encoded_length;
 pub use writer::write;

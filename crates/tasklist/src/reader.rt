@@ -285,3 +285,18 @@ pub fn check(bytes: &[u8]) -> Checked
     let r = read(bytes);
     r.answer
 }
+
+// Document 01's number of a refusal.
+pub fn refusal_number(refusal: Refusal) -> u8
+    ensures { λ r. ⌜ r ≡ refusal-number refusal ⌝ }
+{
+    match refusal {
+        Refusal::Incomplete => 1,
+        Refusal::Tag => 2,
+        Refusal::Head => 3,
+        Refusal::Footprint => 4,
+        Refusal::Body => 5,
+        Refusal::Leftover => 6,
+        Refusal::Tasks => 7,
+    }
+}

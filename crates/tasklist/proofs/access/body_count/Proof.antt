@@ -14,16 +14,17 @@ use mathlib.Core.Path.{_≡_, refl, sym, ap, _∙_}
 use borrow.Author.Needs.{needs}
 use Rattle.tasklist.proofs.access.body_count.Statement.{statement}
 use Rattle.tasklist.proofs.access.body_count.Tie as tie
-use Rattle.tasklist.proofs.access.body_count.Reads as reads
-use Rattle.tasklist.proofs.access.body_count.Lts as lts
-use Rattle.tasklist.proofs.counts.clamped.Reads as clamped-reads
 
 clamped-requires : tie.Need-clamped-requires
 clamped-requires c κs = search needs
 
 returns : tie.Need-returns
 unfolding list-of
-returns c = let ns : length (c .before .args .tables .sizes) ≡ 32 = search needs in c .clamped .ensures ∙ sym (rows-count 32 (c .before .args .tables .bodies) (c .before .args .tables .sizes) (instructions (c .before .args .tables .cells)) ns)
+returns c =
+    let args = c .before .args in
+    let ns : length (args .tables .sizes) ≡ 32 = search needs in
+    c .clamped .ensures ∙ sym (rows-count 32 (args .tables .bodies) (args .tables .sizes) (instructions
+    (args .tables .cells)) ns)
 
 pub body-count-spec : {M : Type 1} → statement M
 body-count-spec = tie.close (tie.spec clamped-requires returns)

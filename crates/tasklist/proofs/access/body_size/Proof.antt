@@ -14,9 +14,6 @@ use mathlib.Core.Path.{_≡_, refl, sym, ap, _∙_}
 use borrow.Author.Needs.{needs}
 use Rattle.tasklist.proofs.access.body_size.Statement.{statement}
 use Rattle.tasklist.proofs.access.body_size.Tie as tie
-use Rattle.tasklist.proofs.access.body_size.Reads as reads
-use Rattle.tasklist.proofs.access.body_size.Lts as lts
-use Rattle.tasklist.proofs.counts.clamped.Reads as clamped-reads
 
 clamped-requires : tie.Need-clamped-requires
 clamped-requires c κs = search needs
@@ -29,11 +26,23 @@ clamped-requires-2 c κs = search needs
 
 returns : tie.Need-returns
 unfolding list-of body-of
-returns c = let ns : length (c .before .before .before .before .args .t1 .sizes) ≡ 32 = search needs in let xs : length (c .before .before .before .before .args .t1 .cells) ≡ 1024 = length-lowered (the-cell .to) (c .before .before .before .before .args .t1 .cells) 1024 (c .before .before .before .before .good .0 .1 .1 .1 .1 .1 .1 .1 .1 .0 .1 .0 .1) in let ys : length (instructions (c .before .before .before .before .args .t1 .cells)) ≡ 1024 = length-map (c .before .before .before .before .args .t1 .cells) (λ (c : Cell). c .instruction) ∙ xs in c .clamped2 .ensures ∙ sym (row-length 32 (c .before .before .before .before .args .t1 .bodies) (c .before .before .before .before .args .t1 .sizes) (instructions (c .before .before .before .before .args .t1 .cells)) (c .before .before .before .before .args .s) (omega arith) (omega arith))
+returns c =
+    let args = c .before .before .before .before .args in
+    let ns : length (args .t1 .sizes) ≡ 32 = search needs in
+    let xs : length (args .t1 .cells) ≡ 1024 = length-lowered (the-cell .to) (args .t1 .cells) 1024
+    (c .before .before .before .before .good .0 .1 .1 .1 .1 .1 .1 .1 .1 .0 .1 .0 .1) in
+    let ys : length (instructions (args .t1 .cells)) ≡ 1024 = length-map (args .t1 .cells) (λ (c : Cell).
+    c .instruction) ∙ xs in
+    c .clamped2 .ensures ∙ sym (row-length 32 (args .t1 .bodies) (args .t1 .sizes) (instructions (args .t1 .cells))
+    (args .s) (omega arith) (omega arith))
 
 returns-2 : tie.Need-returns-2
 unfolding list-of body-of
-returns-2 c = let ns : length (c .before .before .args .t1 .sizes) ≡ 32 = search needs in sym (ap length (row-none 32 (c .before .before .args .t1 .bodies) (c .before .before .args .t1 .sizes) (instructions (c .before .before .args .t1 .cells)) (c .before .before .args .s) (omega arith)))
+returns-2 c =
+    let args = c .before .before .args in
+    let ns : length (args .t1 .sizes) ≡ 32 = search needs in
+    sym (ap length (row-none 32 (args .t1 .bodies) (args .t1 .sizes) (instructions (args .t1 .cells)) (args .s) (omega
+    arith)))
 
 pub body-size-spec : {M : Type 1} → statement M
 body-size-spec =

@@ -12,16 +12,17 @@ use mathlib.Core.Path.{_≡_, refl, sym, ap, _∙_}
 use borrow.Author.Needs.{needs}
 use Rattle.tasklist.proofs.access.footprint_count.Statement.{statement}
 use Rattle.tasklist.proofs.access.footprint_count.Tie as tie
-use Rattle.tasklist.proofs.access.footprint_count.Reads as reads
-use Rattle.tasklist.proofs.access.footprint_count.Lts as lts
-use Rattle.tasklist.proofs.counts.clamped.Reads as clamped-reads
 
 clamped-requires : tie.Need-clamped-requires
 clamped-requires c κs = search needs
 
 returns : tie.Need-returns
 unfolding list-of
-returns c = let ns : length (c .before .args .tables .widths) ≡ 32 = search needs in c .clamped .ensures ∙ sym (rows-count 8 (c .before .args .tables .footprints) (c .before .args .tables .widths) (c .before .args .tables .lines) ns)
+returns c =
+    let args = c .before .args in
+    let ns : length (args .tables .widths) ≡ 32 = search needs in
+    c .clamped .ensures ∙ sym (rows-count 8 (args .tables .footprints) (args .tables .widths) (args .tables .lines)
+    ns)
 
 pub footprint-count-spec : {M : Type 1} → statement M
 footprint-count-spec = tie.close (tie.spec clamped-requires returns)

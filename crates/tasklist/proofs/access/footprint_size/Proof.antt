@@ -12,9 +12,6 @@ use mathlib.Core.Path.{_≡_, refl, sym, ap, _∙_}
 use borrow.Author.Needs.{needs}
 use Rattle.tasklist.proofs.access.footprint_size.Statement.{statement}
 use Rattle.tasklist.proofs.access.footprint_size.Tie as tie
-use Rattle.tasklist.proofs.access.footprint_size.Reads as reads
-use Rattle.tasklist.proofs.access.footprint_size.Lts as lts
-use Rattle.tasklist.proofs.counts.clamped.Reads as clamped-reads
 
 clamped-requires : tie.Need-clamped-requires
 clamped-requires c κs = search needs
@@ -27,11 +24,20 @@ clamped-requires-2 c κs = search needs
 
 returns : tie.Need-returns
 unfolding list-of footprint-of
-returns c = let ns : length (c .before .before .before .before .args .t1 .widths) ≡ 32 = search needs in let xs : length (c .before .before .before .before .args .t1 .lines) ≡ 256 = length-lowered (the-line .to) (c .before .before .before .before .args .t1 .lines) 256 (c .before .before .before .before .good .0 .1 .1 .1 .1 .1 .1 .0 .1 .0 .1) in c .clamped2 .ensures ∙ sym (row-length 8 (c .before .before .before .before .args .t1 .footprints) (c .before .before .before .before .args .t1 .widths) (c .before .before .before .before .args .t1 .lines) (c .before .before .before .before .args .f) (omega arith) (omega arith))
+returns c =
+    let args = c .before .before .before .before .args in
+    let ns : length (args .t1 .widths) ≡ 32 = search needs in
+    let xs : length (args .t1 .lines) ≡ 256 = length-lowered (the-line .to) (args .t1 .lines) 256
+    (c .before .before .before .before .good .0 .1 .1 .1 .1 .1 .1 .0 .1 .0 .1) in
+    c .clamped2 .ensures ∙ sym (row-length 8 (args .t1 .footprints) (args .t1 .widths) (args .t1 .lines) (args .f)
+    (omega arith) (omega arith))
 
 returns-2 : tie.Need-returns-2
 unfolding list-of footprint-of
-returns-2 c = let ns : length (c .before .before .args .t1 .widths) ≡ 32 = search needs in sym (ap length (row-none 8 (c .before .before .args .t1 .footprints) (c .before .before .args .t1 .widths) (c .before .before .args .t1 .lines) (c .before .before .args .f) (omega arith)))
+returns-2 c =
+    let args = c .before .before .args in
+    let ns : length (args .t1 .widths) ≡ 32 = search needs in
+    sym (ap length (row-none 8 (args .t1 .footprints) (args .t1 .widths) (args .t1 .lines) (args .f) (omega arith)))
 
 pub footprint-size-spec : {M : Type 1} → statement M
 footprint-size-spec =

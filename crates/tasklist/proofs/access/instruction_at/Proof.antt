@@ -16,9 +16,6 @@ use mathlib.Core.Path.{_≡_, refl, sym, ap, _∙_}
 use borrow.Author.Needs.{needs}
 use Rattle.tasklist.proofs.access.instruction_at.Statement.{statement}
 use Rattle.tasklist.proofs.access.instruction_at.Tie as tie
-use Rattle.tasklist.proofs.access.instruction_at.Reads as reads
-use Rattle.tasklist.proofs.access.instruction_at.Lts as lts
-use Rattle.tasklist.proofs.access.body_size.Reads as body-size-reads
 
 body-size-requires : tie.Need-body-size-requires
 body-size-requires c κs = search needs
@@ -29,24 +26,67 @@ unfolding list-of body-of
 inside t s i h = within 32 (t .bodies) (t .sizes) (instructions (t .cells)) s i h
 
 mul-cell : tie.Need-mul-cell
-mul-cell c = let ns : length (c .before .before .args .t1 .sizes) ≡ 32 = search needs in let p : Within 32 (c .before .before .args .t1 .bodies) (c .before .before .args .t1 .sizes) (instructions (c .before .before .args .t1 .cells)) (c .before .before .args .s) (c .before .before .args .i) = inside (c .before .before .args .t1) (c .before .before .args .s) (c .before .before .args .i) (omega (arith, c .before .body-size .ensures, c .if1 .taken)) in omega arith
+mul-cell c =
+    let args = c .before .before .args in
+    let ns : length (args .t1 .sizes) ≡ 32 = search needs in
+    let p : Within 32 (args .t1 .bodies) (args .t1 .sizes) (instructions (args .t1 .cells)) (args .s) (args .i) =
+    inside (args .t1) (args .s) (args .i) (omega (arith, c .before .body-size .ensures, c .if1 .taken)) in
+    omega arith
 
 add-cell : tie.Need-add-cell
-add-cell c = let ns : length (c .before .before .args .t1 .sizes) ≡ 32 = search needs in let p : Within 32 (c .before .before .args .t1 .bodies) (c .before .before .args .t1 .sizes) (instructions (c .before .before .args .t1 .cells)) (c .before .before .args .s) (c .before .before .args .i) = inside (c .before .before .args .t1) (c .before .before .args .s) (c .before .before .args .i) (omega (arith, c .before .body-size .ensures, c .if1 .taken)) in omega arith
+add-cell c =
+    let args = c .before .before .args in
+    let ns : length (args .t1 .sizes) ≡ 32 = search needs in
+    let p : Within 32 (args .t1 .bodies) (args .t1 .sizes) (instructions (args .t1 .cells)) (args .s) (args .i) =
+    inside (args .t1) (args .s) (args .i) (omega (arith, c .before .body-size .ensures, c .if1 .taken)) in
+    omega arith
 
 mul-cell-2 : tie.Need-mul-cell-2
-mul-cell-2 c = let ns : length (c .before .before .args .t1 .sizes) ≡ 32 = search needs in let p : Within 32 (c .before .before .args .t1 .bodies) (c .before .before .args .t1 .sizes) (instructions (c .before .before .args .t1 .cells)) (c .before .before .args .s) (c .before .before .args .i) = inside (c .before .before .args .t1) (c .before .before .args .s) (c .before .before .args .i) (omega (arith, c .before .body-size .ensures, c .if1 .taken)) in omega arith
+mul-cell-2 c =
+    let args = c .before .before .args in
+    let ns : length (args .t1 .sizes) ≡ 32 = search needs in
+    let p : Within 32 (args .t1 .bodies) (args .t1 .sizes) (instructions (args .t1 .cells)) (args .s) (args .i) =
+    inside (args .t1) (args .s) (args .i) (omega (arith, c .before .body-size .ensures, c .if1 .taken)) in
+    omega arith
 
 element-copy-out-cell : tie.Need-element-copy-out-cell
-element-copy-out-cell c = let ns : length (c .before .before .args .t1 .sizes) ≡ 32 = search needs in let p : Within 32 (c .before .before .args .t1 .bodies) (c .before .before .args .t1 .sizes) (instructions (c .before .before .args .t1 .cells)) (c .before .before .args .s) (c .before .before .args .i) = inside (c .before .before .args .t1) (c .before .before .args .s) (c .before .before .args .i) (omega (arith, c .before .body-size .ensures, c .if1 .taken)) in omega arith
+element-copy-out-cell c =
+    let args = c .before .before .args in
+    let ns : length (args .t1 .sizes) ≡ 32 = search needs in
+    let p : Within 32 (args .t1 .bodies) (args .t1 .sizes) (instructions (args .t1 .cells)) (args .s) (args .i) =
+    inside (args .t1) (args .s) (args .i) (omega (arith, c .before .body-size .ensures, c .if1 .taken)) in
+    omega arith
 
 returns : tie.Need-returns
 unfolding list-of body-of instruction-of
-returns c = let ns : length (c .before .before .before .args .t1 .sizes) ≡ 32 = search needs in let xs : length (c .before .before .before .args .t1 .cells) ≡ 1024 = length-lowered (the-cell .to) (c .before .before .before .args .t1 .cells) 1024 (c .before .before .before .good .0 .1 .1 .1 .1 .1 .1 .1 .1 .0 .1 .0 .1) in let ys : length (instructions (c .before .before .before .args .t1 .cells)) ≡ 1024 = length-map (c .before .before .before .args .t1 .cells) (λ (c : Cell). c .instruction) ∙ xs in let ns : length (c .before .before .before .args .t1 .sizes) ≡ 32 = search needs in let p : Within 32 (c .before .before .before .args .t1 .bodies) (c .before .before .before .args .t1 .sizes) (instructions (c .before .before .before .args .t1 .cells)) (c .before .before .before .args .s) (c .before .before .before .args .i) = inside (c .before .before .before .args .t1) (c .before .before .before .args .s) (c .before .before .before .args .i) (omega (arith, c .before .before .body-size .ensures, c .before .if1 .taken)) in let sz : length (body-of (list-of (c .before .before .before .args .t1)) (c .before .before .before .args .s)) ≡ min (getD (c .before .before .before .args .t1 .sizes) (c .before .before .before .args .s) 0) 32 = row-length 32 (c .before .before .before .args .t1 .bodies) (c .before .before .before .args .t1 .sizes) (instructions (c .before .before .before .args .t1 .cells)) (c .before .before .before .args .s) (p .used-row) (omega arith) in sym (row-place 32 (c .before .before .before .args .t1 .bodies) (c .before .before .before .args .t1 .sizes) (instructions (c .before .before .before .args .t1 .cells)) (c .before .before .before .args .s) (c .before .before .before .args .i) blank-instruction blank-instruction (p .used-row) (omega (arith, c .before .before .body-size .ensures, c .before .if1 .taken, sz)) (omega arith) ∙ getD-held (λ (c : Cell). c .instruction) (c .before .before .before .args .t1 .cells) (32 * c .before .before .before .args .s + c .before .before .before .args .i) blank-cell blank-instruction (omega arith))
+returns c =
+    let args = c .before .before .before .args in
+    let body-size = c .before .before .body-size in
+    let ns : length (args .t1 .sizes) ≡ 32 = search needs in
+    let xs : length (args .t1 .cells) ≡ 1024 = length-lowered (the-cell .to) (args .t1 .cells) 1024
+    (c .before .before .before .good .0 .1 .1 .1 .1 .1 .1 .1 .1 .0 .1 .0 .1) in
+    let ys : length (instructions (args .t1 .cells)) ≡ 1024 = length-map (args .t1 .cells) (λ (c : Cell).
+    c .instruction) ∙ xs in
+    let ns : length (args .t1 .sizes) ≡ 32 = search needs in
+    let p : Within 32 (args .t1 .bodies) (args .t1 .sizes) (instructions (args .t1 .cells)) (args .s) (args .i) =
+    inside (args .t1) (args .s) (args .i) (omega (arith, body-size .ensures, c .before .if1 .taken)) in
+    let sz : length (body-of (list-of (args .t1)) (args .s)) ≡ min (getD (args .t1 .sizes) (args .s) 0) 32 =
+    row-length 32 (args .t1 .bodies) (args .t1 .sizes) (instructions (args .t1 .cells)) (args .s) (p .used-row) (omega
+    arith) in
+    sym (row-place 32 (args .t1 .bodies) (args .t1 .sizes) (instructions (args .t1 .cells)) (args .s) (args .i)
+    blank-instruction blank-instruction (p .used-row) (omega (arith, body-size .ensures, c .before .if1 .taken, sz))
+    (omega arith) ∙ getD-held (λ (c : Cell). c .instruction) (args .t1 .cells) (32 * args .s + args .i) blank-cell
+    blank-instruction (omega arith))
 
 returns-2 : tie.Need-returns-2
 unfolding list-of body-of instruction-of
-returns-2 c = sym (List·getD-eq-default (body-of (list-of (c .before .before .args .t1)) (c .before .before .args .s)) blank-instruction (omega (arith, c .before .body-size .ensures, c .if1 .left)))
+returns-2 c =
+    let args = c .before .before .args in
+    sym (List·getD-eq-default (body-of (list-of (args .t1)) (args .s)) blank-instruction (omega (
+      arith,
+      c .before .body-size .ensures,
+      c .if1 .left,
+    )))
 
 pub instruction-at-spec : {M : Type 1} → statement M
 instruction-at-spec =

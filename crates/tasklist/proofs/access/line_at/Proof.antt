@@ -14,9 +14,6 @@ use mathlib.Core.Path.{_≡_, refl, sym, ap, _∙_}
 use borrow.Author.Needs.{needs}
 use Rattle.tasklist.proofs.access.line_at.Statement.{statement}
 use Rattle.tasklist.proofs.access.line_at.Tie as tie
-use Rattle.tasklist.proofs.access.line_at.Reads as reads
-use Rattle.tasklist.proofs.access.line_at.Lts as lts
-use Rattle.tasklist.proofs.access.footprint_size.Reads as footprint-size-reads
 
 footprint-size-requires : tie.Need-footprint-size-requires
 footprint-size-requires c κs = search needs
@@ -27,24 +24,62 @@ unfolding list-of footprint-of
 inside t s i h = within 8 (t .footprints) (t .widths) (t .lines) s i h
 
 mul-result : tie.Need-mul-result
-mul-result c = let ns : length (c .before .before .args .t1 .widths) ≡ 32 = search needs in let p : Within 8 (c .before .before .args .t1 .footprints) (c .before .before .args .t1 .widths) (c .before .before .args .t1 .lines) (c .before .before .args .f) (c .before .before .args .j) = inside (c .before .before .args .t1) (c .before .before .args .f) (c .before .before .args .j) (omega (arith, c .before .footprint-size .ensures, c .if1 .taken)) in omega arith
+mul-result c =
+    let args = c .before .before .args in
+    let ns : length (args .t1 .widths) ≡ 32 = search needs in
+    let p : Within 8 (args .t1 .footprints) (args .t1 .widths) (args .t1 .lines) (args .f) (args .j) = inside
+    (args .t1) (args .f) (args .j) (omega (arith, c .before .footprint-size .ensures, c .if1 .taken)) in
+    omega arith
 
 add-result : tie.Need-add-result
-add-result c = let ns : length (c .before .before .args .t1 .widths) ≡ 32 = search needs in let p : Within 8 (c .before .before .args .t1 .footprints) (c .before .before .args .t1 .widths) (c .before .before .args .t1 .lines) (c .before .before .args .f) (c .before .before .args .j) = inside (c .before .before .args .t1) (c .before .before .args .f) (c .before .before .args .j) (omega (arith, c .before .footprint-size .ensures, c .if1 .taken)) in omega arith
+add-result c =
+    let args = c .before .before .args in
+    let ns : length (args .t1 .widths) ≡ 32 = search needs in
+    let p : Within 8 (args .t1 .footprints) (args .t1 .widths) (args .t1 .lines) (args .f) (args .j) = inside
+    (args .t1) (args .f) (args .j) (omega (arith, c .before .footprint-size .ensures, c .if1 .taken)) in
+    omega arith
 
 mul-result-2 : tie.Need-mul-result-2
-mul-result-2 c = let ns : length (c .before .before .args .t1 .widths) ≡ 32 = search needs in let p : Within 8 (c .before .before .args .t1 .footprints) (c .before .before .args .t1 .widths) (c .before .before .args .t1 .lines) (c .before .before .args .f) (c .before .before .args .j) = inside (c .before .before .args .t1) (c .before .before .args .f) (c .before .before .args .j) (omega (arith, c .before .footprint-size .ensures, c .if1 .taken)) in omega arith
+mul-result-2 c =
+    let args = c .before .before .args in
+    let ns : length (args .t1 .widths) ≡ 32 = search needs in
+    let p : Within 8 (args .t1 .footprints) (args .t1 .widths) (args .t1 .lines) (args .f) (args .j) = inside
+    (args .t1) (args .f) (args .j) (omega (arith, c .before .footprint-size .ensures, c .if1 .taken)) in
+    omega arith
 
 element-copy-out-result : tie.Need-element-copy-out-result
-element-copy-out-result c = let ns : length (c .before .before .args .t1 .widths) ≡ 32 = search needs in let p : Within 8 (c .before .before .args .t1 .footprints) (c .before .before .args .t1 .widths) (c .before .before .args .t1 .lines) (c .before .before .args .f) (c .before .before .args .j) = inside (c .before .before .args .t1) (c .before .before .args .f) (c .before .before .args .j) (omega (arith, c .before .footprint-size .ensures, c .if1 .taken)) in omega arith
+element-copy-out-result c =
+    let args = c .before .before .args in
+    let ns : length (args .t1 .widths) ≡ 32 = search needs in
+    let p : Within 8 (args .t1 .footprints) (args .t1 .widths) (args .t1 .lines) (args .f) (args .j) = inside
+    (args .t1) (args .f) (args .j) (omega (arith, c .before .footprint-size .ensures, c .if1 .taken)) in
+    omega arith
 
 returns : tie.Need-returns
 unfolding list-of footprint-of
-returns c = let ns : length (c .before .before .before .args .t1 .widths) ≡ 32 = search needs in let xs : length (c .before .before .before .args .t1 .lines) ≡ 256 = length-lowered (the-line .to) (c .before .before .before .args .t1 .lines) 256 (c .before .before .before .good .0 .1 .1 .1 .1 .1 .1 .0 .1 .0 .1) in let ns : length (c .before .before .before .args .t1 .widths) ≡ 32 = search needs in let p : Within 8 (c .before .before .before .args .t1 .footprints) (c .before .before .before .args .t1 .widths) (c .before .before .before .args .t1 .lines) (c .before .before .before .args .f) (c .before .before .before .args .j) = inside (c .before .before .before .args .t1) (c .before .before .before .args .f) (c .before .before .before .args .j) (omega (arith, c .before .before .footprint-size .ensures, c .before .if1 .taken)) in let sz : length (footprint-of (list-of (c .before .before .before .args .t1)) (c .before .before .before .args .f)) ≡ min (getD (c .before .before .before .args .t1 .widths) (c .before .before .before .args .f) 0) 8 = row-length 8 (c .before .before .before .args .t1 .footprints) (c .before .before .before .args .t1 .widths) (c .before .before .before .args .t1 .lines) (c .before .before .before .args .f) (p .used-row) (omega arith) in sym (row-place 8 (c .before .before .before .args .t1 .footprints) (c .before .before .before .args .t1 .widths) (c .before .before .before .args .t1 .lines) (c .before .before .before .args .f) (c .before .before .before .args .j) blank-line blank-line (p .used-row) (omega (arith, c .before .before .footprint-size .ensures, c .before .if1 .taken, sz)) (omega arith))
+returns c =
+    let args = c .before .before .before .args in
+    let footprint-size = c .before .before .footprint-size in
+    let ns : length (args .t1 .widths) ≡ 32 = search needs in
+    let xs : length (args .t1 .lines) ≡ 256 = length-lowered (the-line .to) (args .t1 .lines) 256
+    (c .before .before .before .good .0 .1 .1 .1 .1 .1 .1 .0 .1 .0 .1) in
+    let ns : length (args .t1 .widths) ≡ 32 = search needs in
+    let p : Within 8 (args .t1 .footprints) (args .t1 .widths) (args .t1 .lines) (args .f) (args .j) = inside
+    (args .t1) (args .f) (args .j) (omega (arith, footprint-size .ensures, c .before .if1 .taken)) in
+    let sz : length (footprint-of (list-of (args .t1)) (args .f)) ≡ min (getD (args .t1 .widths) (args .f) 0) 8 =
+    row-length 8 (args .t1 .footprints) (args .t1 .widths) (args .t1 .lines) (args .f) (p .used-row) (omega arith) in
+    sym (row-place 8 (args .t1 .footprints) (args .t1 .widths) (args .t1 .lines) (args .f) (args .j) blank-line
+    blank-line (p .used-row) (omega (arith, footprint-size .ensures, c .before .if1 .taken, sz)) (omega arith))
 
 returns-2 : tie.Need-returns-2
 unfolding list-of footprint-of
-returns-2 c = sym (List·getD-eq-default (footprint-of (list-of (c .before .before .args .t1)) (c .before .before .args .f)) blank-line (omega (arith, c .before .footprint-size .ensures, c .if1 .left)))
+returns-2 c =
+    let args = c .before .before .args in
+    sym (List·getD-eq-default (footprint-of (list-of (args .t1)) (args .f)) blank-line (omega (
+      arith,
+      c .before .footprint-size .ensures,
+      c .if1 .left,
+    )))
 
 pub line-at-spec : {M : Type 1} → statement M
 line-at-spec =

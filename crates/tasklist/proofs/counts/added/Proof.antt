@@ -7,9 +7,6 @@ use mathlib.Core.Path.{_≡_, refl, sym, ap, _∙_}
 use borrow.Author.Needs.{needs}
 use Rattle.tasklist.proofs.counts.added.Statement.{statement}
 use Rattle.tasklist.proofs.counts.added.Tie as tie
-use Rattle.tasklist.proofs.counts.added.Reads as reads
-use Rattle.tasklist.proofs.counts.added.Lts as lts
-use Rattle.tasklist.proofs.counts.count_at.Reads as count-at-reads
 
 enum-told : tie.Need-enum-told
 enum-told c = search needs
@@ -74,7 +71,9 @@ returns-7 c = ap (adds (λ (a : ℕ). getD (c .before .before .args .known) a 1)
 
 returns-8 : tie.Need-returns-8
 unfolding adds
-returns-8 c = c .count-at .ensures ∙ ap (adds (λ (a : ℕ). getD (c .before .before .before .before .args .known) a 1)) (sym (c .before .before .instruction .given .1))
+returns-8 c =
+    c .count-at .ensures ∙ ap (adds (λ (a : ℕ). getD (c .before .before .before .before .args .known) a 1)) (sym
+    (c .before .before .instruction .given .1))
 
 returns-9 : tie.Need-returns-9
 unfolding adds

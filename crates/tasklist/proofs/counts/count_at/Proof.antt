@@ -7,8 +7,6 @@ use mathlib.Core.Path.{_≡_, refl, sym, ap, _∙_}
 use borrow.Author.Needs.{needs}
 use Rattle.tasklist.proofs.counts.count_at.Statement.{statement}
 use Rattle.tasklist.proofs.counts.count_at.Tie as tie
-use Rattle.tasklist.proofs.counts.count_at.Reads as reads
-use Rattle.tasklist.proofs.counts.count_at.Lts as lts
 
 array-read-result : tie.Need-array-read-result
 array-read-result c = search needs

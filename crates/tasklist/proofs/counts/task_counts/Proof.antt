@@ -15,11 +15,6 @@ use native.Mathlib.Omega.{arith}
 use mathlib.Core.Path.{_≡_, refl, sym, ap, _∙_, subst}
 use Rattle.tasklist.proofs.counts.task_counts.Statement.{statement}
 use Rattle.tasklist.proofs.counts.task_counts.Tie as tie
-use Rattle.tasklist.proofs.counts.task_counts.Reads as reads
-use Rattle.tasklist.proofs.counts.task_counts.Lts as lts
-use Rattle.tasklist.proofs.counts.added.Reads as added-reads
-use Rattle.tasklist.proofs.counts.capped_sum.Reads as capped-sum-reads
-use Rattle.tasklist.proofs.counts.clamped.Reads as clamped-reads
 
 abbrev held : Cell → Instruction
 held cell = cell .instruction
@@ -43,19 +38,38 @@ none-left : (s : ℕ) → s ≤ 0 → s ≡ 0
 none-left s h = omega arith
 
 abbrev Inv-loop2 : tie.InvT-loop2
-Inv-loop2 bodies sizes cells known s size n₀ i₀ n i = (i ≤ size) × (size ≡ length (row-of 32 bodies sizes (instructions cells) s)) × (size ≡ min (getD sizes s 0) 32) × (n ≤ 129) × sum-of bodies sizes cells s n i
+Inv-loop2 bodies sizes cells known s size n₀ i₀ n i =
+    (i ≤ size) × (size ≡ length (row-of 32 bodies sizes (instructions cells) s)) ×
+    (size ≡ min (getD sizes s 0) 32) × (n ≤ 129) × sum-of bodies sizes cells s n i
 
 abbrev μ-loop2 : tie.MeasureT-loop2
 μ-loop2 bodies sizes cells known s size n₀ i₀ n i = size - i
 
 abbrev Inv-loop : tie.InvT-loop
-Inv-loop bodies sizes cells known₀ s₀ known s = (s ≤ bodies) × (bodies ≤ 32) × (length sizes ≡ 32) × (length cells ≡ 1024) × (length known ≡ 32) × (length (bodies-of bodies sizes cells) ≡ bodies) × Known (bodies-of bodies sizes cells) s known
+Inv-loop bodies sizes cells known₀ s₀ known s =
+    (s ≤ bodies) × (bodies ≤ 32) × (length sizes ≡ 32) × (length cells ≡ 1024) × (length known ≡ 32) ×
+    (length (bodies-of bodies sizes cells) ≡ bodies) × Known (bodies-of bodies sizes cells) s known
 
 abbrev μ-loop : tie.MeasureT-loop
 μ-loop bodies sizes cells known₀ s₀ known s = s
 
 loop-holds : tie.Need-loop-holds Inv-loop2 μ-loop2 Inv-loop μ-loop
-loop-holds c = let len : length (c .args .t2) ≡ 32 = search needs in (search needs, search needs, search needs, c .good .1 .1 .0 .1 .0 .1, refl, (rows-length 32 (take (c .args .bodies) (c .args .t2)) (instructions (c .args .t3)) ∙ length-take-le (c .args .bodies) (c .args .t2) (omega arith)), known-starts (bodies-of (c .args .bodies) (c .args .t2) (c .args .t3)) 32 (c .args .bodies) (omega (arith, (rows-length 32 (take (c .args .bodies) (c .args .t2)) (instructions (c .args .t3)) ∙ length-take-le (c .args .bodies) (c .args .t2) (omega arith)))))
+loop-holds c =
+    let len : length (c .args .t2) ≡ 32 = search needs in (
+      search needs,
+      search needs,
+      search needs,
+      c .good .1 .1 .0 .1 .0 .1,
+      refl,
+      (rows-length 32 (take
+          (c .args .bodies) (c .args .t2)) (instructions (c .args .t3)) ∙ length-take-le (c .args .bodies) (c .args .t2)
+          (omega arith)),
+      known-starts (bodies-of (c .args .bodies) (c .args .t2) (c .args .t3)) 32 (c .args .bodies) (omega (
+        arith,
+        (rows-length 32 (take (c .args .bodies) (c .args .t2)) (instructions (c .args .t3)) ∙ length-take-le
+            (c .args .bodies) (c .args .t2) (omega arith)),
+      )),
+    )
 
 sub-s : tie.Need-sub-s Inv-loop2 μ-loop2 Inv-loop μ-loop
 sub-s c = search needs
@@ -67,7 +81,17 @@ clamped-requires : tie.Need-clamped-requires Inv-loop2 μ-loop2 Inv-loop μ-loop
 clamped-requires c κs = tt
 
 loop2-holds : tie.Need-loop2-holds Inv-loop2 μ-loop2 Inv-loop μ-loop
-loop2-holds c = (search needs, c .clamped .ensures ∙ sym (row-length 32 (c .before .before .before .args .bodies) (c .before .before .before .args .t2) (instructions (c .before .before .before .args .t3)) (c .before .before .loop .s - 1) (omega arith) (omega (arith, length-map (c .before .before .before .args .t3) held))), c .clamped .ensures, search needs, sum-starts (behind (c .before .before .before .args .bodies) (c .before .before .before .args .t2) (c .before .before .before .args .t3) (c .before .before .loop .s - 1)) (row-of 32 (c .before .before .before .args .bodies) (c .before .before .before .args .t2) (instructions (c .before .before .before .args .t3)) (c .before .before .loop .s - 1)))
+loop2-holds c =
+    let args = c .before .before .before .args in
+    let loop = c .before .before .loop in (
+      search needs,
+      c .clamped .ensures ∙ sym (row-length 32 (args .bodies) (args .t2) (instructions (args .t3))
+          (loop .s - 1) (omega arith) (omega (arith, length-map (args .t3) held))),
+      c .clamped .ensures,
+      search needs,
+      sum-starts (behind (args .bodies) (args .t2) (args .t3) (loop .s - 1)) (row-of 32 (args .bodies) (args .t2)
+          (instructions (args .t3)) (loop .s - 1)),
+    )
 
 mul-cell : tie.Need-mul-cell Inv-loop2 μ-loop2 Inv-loop μ-loop
 mul-cell c = search needs
@@ -94,7 +118,29 @@ loop2-less : tie.Need-loop2-less Inv-loop2 μ-loop2 Inv-loop μ-loop
 loop2-less c = search needs
 
 loop2-again : tie.Need-loop2-again Inv-loop2 μ-loop2 Inv-loop μ-loop
-loop2-again c = let q : c .capped-sum .result ≡ capped (c .before .before .before .before .loop2 .n + adds (λ (a : ℕ). getD (c .before .before .before .before .before .before .before .loop .known) a 1) (held (getD (c .before .before .before .before .before .before .before .before .args .t3) (32 * (c .before .before .before .before .before .before .before .loop .s - 1) + c .before .before .before .before .loop2 .i) blank-cell))) = c .capped-sum .ensures ∙ ap (λ (v : ℕ). capped (c .before .before .before .before .loop2 .n + v)) (c .before .added .ensures) in (search needs, c .before .before .before .before .loop2 .inv .1, c .before .before .before .before .loop2 .inv .2, (rw q (omega arith)), subst (λ (m : ℕ). sum-of (c .before .before .before .before .before .before .before .before .args .bodies) (c .before .before .before .before .before .before .before .before .args .t2) (c .before .before .before .before .before .before .before .before .args .t3) (c .before .before .before .before .before .before .before .loop .s - 1) m (c .before .before .before .before .loop2 .i + 1)) (sym q) (sum-more (behind (c .before .before .before .before .before .before .before .before .args .bodies) (c .before .before .before .before .before .before .before .before .args .t2) (c .before .before .before .before .before .before .before .before .args .t3) (c .before .before .before .before .before .before .before .loop .s - 1)) (row-of 32 (c .before .before .before .before .before .before .before .before .args .bodies) (c .before .before .before .before .before .before .before .before .args .t2) (instructions (c .before .before .before .before .before .before .before .before .args .t3)) (c .before .before .before .before .before .before .before .loop .s - 1)) (count-body (behind (c .before .before .before .before .before .before .before .before .args .bodies) (c .before .before .before .before .before .before .before .before .args .t2) (c .before .before .before .before .before .before .before .before .args .t3) (c .before .before .before .before .before .before .before .loop .s - 1)) (row-of 32 (c .before .before .before .before .before .before .before .before .args .bodies) (c .before .before .before .before .before .before .before .before .args .t2) (instructions (c .before .before .before .before .before .before .before .before .args .t3)) (c .before .before .before .before .before .before .before .loop .s - 1))) (c .before .before .before .before .before .before .before .loop .known) (c .before .before .before .before .loop2 .n) (c .before .before .before .before .loop2 .i) (held (getD (c .before .before .before .before .before .before .before .before .args .t3) (32 * (c .before .before .before .before .before .before .before .loop .s - 1) + c .before .before .before .before .loop2 .i) blank-cell)) (subst (λ (m : ℕ). Known (bodies-of (c .before .before .before .before .before .before .before .before .args .bodies) (c .before .before .before .before .before .before .before .before .args .t2) (c .before .before .before .before .before .before .before .before .args .t3)) m (c .before .before .before .before .before .before .before .loop .known)) (pred-suc (c .before .before .before .before .before .before .before .loop .s) (c .before .before .before .before .before .before .loop-test .taken)) (c .before .before .before .before .before .before .before .loop .inv .6)) (omega arith) (row-place 32 (c .before .before .before .before .before .before .before .before .args .bodies) (c .before .before .before .before .before .before .before .before .args .t2) (instructions (c .before .before .before .before .before .before .before .before .args .t3)) (c .before .before .before .before .before .before .before .loop .s - 1) (c .before .before .before .before .loop2 .i) blank-instruction blank-instruction (omega arith) (omega arith) (omega (arith, length-map (c .before .before .before .before .before .before .before .before .args .t3) held)) ∙ getD-held held (c .before .before .before .before .before .before .before .before .args .t3) (32 * (c .before .before .before .before .before .before .before .loop .s - 1) + c .before .before .before .before .loop2 .i) blank-cell blank-instruction (omega arith)) (c .before .before .before .before .loop2 .inv .4)))
+loop2-again c =
+    let args = c .before .before .before .before .before .before .before .before .args in
+    let loop = c .before .before .before .before .before .before .before .loop in
+    let loop-test = c .before .before .before .before .before .before .loop-test in
+    let loop2 = c .before .before .before .before .loop2 in
+    let q : c .capped-sum .result ≡ capped (loop2 .n + adds (λ (a : ℕ). getD (loop .known) a 1) (held (getD (args .t3)
+    (32 * (loop .s - 1) + loop2 .i) blank-cell))) = c .capped-sum .ensures ∙ ap (λ (v : ℕ). capped (loop2 .n + v))
+    (c .before .added .ensures) in (
+      search needs,
+      loop2 .inv .1,
+      loop2 .inv .2,
+      (rw q (omega arith)),
+      subst (λ (m : ℕ). sum-of (args .bodies)
+          (args .t2) (args .t3) (loop .s - 1) m (loop2 .i + 1)) (sym q) (sum-more (behind (args .bodies) (args .t2)
+          (args .t3) (loop .s - 1)) (row-of 32 (args .bodies) (args .t2) (instructions (args .t3)) (loop .s - 1))
+          (count-body (behind (args .bodies) (args .t2) (args .t3) (loop .s - 1)) (row-of 32 (args .bodies) (args .t2)
+          (instructions (args .t3)) (loop .s - 1))) (loop .known) (loop2 .n) (loop2 .i) (held (getD (args .t3) (32 *
+          (loop .s - 1) + loop2 .i) blank-cell)) (subst (λ (m : ℕ). Known (bodies-of (args .bodies) (args .t2) (args .t3)) m
+          (loop .known)) (pred-suc (loop .s) (loop-test .taken)) (loop .inv .6)) (omega arith) (row-place 32 (args .bodies)
+          (args .t2) (instructions (args .t3)) (loop .s - 1) (loop2 .i) blank-instruction blank-instruction (omega arith)
+          (omega arith) (omega (arith, length-map (args .t3) held)) ∙ getD-held held (args .t3) (32 * (loop .s - 1) +
+          loop2 .i) blank-cell blank-instruction (omega arith)) (loop2 .inv .4)),
+    )
 
 array-write-known : tie.Need-array-write-known Inv-loop2 μ-loop2 Inv-loop μ-loop
 array-write-known c = search needs
@@ -103,10 +149,32 @@ loop-less : tie.Need-loop-less Inv-loop2 μ-loop2 Inv-loop μ-loop
 loop-less c = search needs
 
 loop-again : tie.Need-loop-again Inv-loop2 μ-loop2 Inv-loop μ-loop
-loop-again c = (search needs, c .before .before .before .before .loop .inv .1, c .before .before .before .before .loop .inv .2, c .before .before .before .before .loop .inv .3, length-set (c .before .before .before .before .loop .known) (c .before .before .before .before .loop .s - 1) (c .before .loop2 .n) ∙ c .before .before .before .before .loop .inv .4, c .before .before .before .before .loop .inv .5, known-more (bodies-of (c .before .before .before .before .before .args .bodies) (c .before .before .before .before .before .args .t2) (c .before .before .before .before .before .args .t3)) (c .before .before .before .before .loop .s - 1) (c .before .loop2 .n) (c .before .before .before .before .loop .known) (omega arith) (omega arith) (subst (λ (m : ℕ). Known (bodies-of (c .before .before .before .before .before .args .bodies) (c .before .before .before .before .before .args .t2) (c .before .before .before .before .before .args .t3)) m (c .before .before .before .before .loop .known)) (pred-suc (c .before .before .before .before .loop .s) (c .before .before .before .loop-test .taken)) (c .before .before .before .before .loop .inv .6)) (sum-whole (behind (c .before .before .before .before .before .args .bodies) (c .before .before .before .before .before .args .t2) (c .before .before .before .before .before .args .t3) (c .before .before .before .before .loop .s - 1)) (row-of 32 (c .before .before .before .before .before .args .bodies) (c .before .before .before .before .before .args .t2) (instructions (c .before .before .before .before .before .args .t3)) (c .before .before .before .before .loop .s - 1)) (count-body (behind (c .before .before .before .before .before .args .bodies) (c .before .before .before .before .before .args .t2) (c .before .before .before .before .before .args .t3) (c .before .before .before .before .loop .s - 1)) (row-of 32 (c .before .before .before .before .before .args .bodies) (c .before .before .before .before .before .args .t2) (instructions (c .before .before .before .before .before .args .t3)) (c .before .before .before .before .loop .s - 1))) (c .before .loop2 .n) (c .before .loop2 .i) (c .before .loop2 .inv .3) (omega arith) (c .before .loop2 .inv .4)))
+loop-again c =
+    let args = c .before .before .before .before .before .args in
+    let loop = c .before .before .before .before .loop in
+    let loop2 = c .before .loop2 in (
+      search needs,
+      loop .inv .1,
+      loop .inv .2,
+      loop .inv .3,
+      length-set (loop .known) (loop .s - 1) (loop2 .n) ∙
+          loop .inv .4,
+      loop .inv .5,
+      known-more (bodies-of (args .bodies) (args .t2) (args .t3)) (loop .s - 1) (loop2 .n)
+          (loop .known) (omega arith) (omega arith) (subst (λ (m : ℕ). Known (bodies-of (args .bodies) (args .t2)
+          (args .t3)) m (loop .known)) (pred-suc (loop .s) (c .before .before .before .loop-test .taken)) (loop .inv .6))
+          (sum-whole (behind (args .bodies) (args .t2) (args .t3) (loop .s - 1)) (row-of 32 (args .bodies) (args .t2)
+          (instructions (args .t3)) (loop .s - 1)) (count-body (behind (args .bodies) (args .t2) (args .t3) (loop .s - 1))
+          (row-of 32 (args .bodies) (args .t2) (instructions (args .t3)) (loop .s - 1))) (loop2 .n) (loop2 .i)
+          (loop2 .inv .3) (omega arith) (loop2 .inv .4)),
+    )
 
 returns : tie.Need-returns Inv-loop2 μ-loop2 Inv-loop μ-loop
-returns c = known-whole (bodies-of (c .before .before .args .bodies) (c .before .before .args .t2) (c .before .before .args .t3)) (c .before .loop .known) (subst (λ (m : ℕ). Known (bodies-of (c .before .before .args .bodies) (c .before .before .args .t2) (c .before .before .args .t3)) m (c .before .loop .known)) (none-left (c .before .loop .s) (c .loop-test .left)) (c .before .loop .inv .6))
+returns c =
+    let args = c .before .before .args in
+    let loop = c .before .loop in
+    known-whole (bodies-of (args .bodies) (args .t2) (args .t3)) (loop .known) (subst (λ (m : ℕ). Known (bodies-of
+    (args .bodies) (args .t2) (args .t3)) m (loop .known)) (none-left (loop .s) (c .loop-test .left)) (loop .inv .6))
 
 pub task-counts-spec : {M : Type 1} → statement M
 task-counts-spec =

@@ -8,8 +8,6 @@ use mathlib.Core.Path.{_≡_, refl, sym, ap, _∙_}
 use denote.Ref.{now}
 use Rattle.tasklist.proofs.fields.limit_of.Statement.{statement}
 use Rattle.tasklist.proofs.fields.limit_of.Tie as tie
-use Rattle.tasklist.proofs.fields.limit_of.Reads as reads
-use Rattle.tasklist.proofs.fields.limit_of.Lts as lts
 
 returns : tie.Need-returns
 unfolding line-limit
@@ -28,7 +26,11 @@ unfolding line-limit
 returns-4 c = rw (c .match .keys4) refl
 
 returns-5 : tie.Need-returns-5
-returns-5 c = let a = c .before .args in sym (line-limit-other (a .locations) (a .kind) (past 3 (a .kind) (past 2 (a .kind) (past 1 (a .kind) (past 0 (a .kind) zero-le (c .match .rest .0 .0 .0 .1)) (c .match .rest .0 .0 .1)) (c .match .rest .0 .1)) (c .match .rest .1)))
+returns-5 c =
+    let a = c .before .args in
+    sym (line-limit-other (a .locations) (a .kind) (past 3 (a .kind) (past 2 (a .kind) (past 1 (a .kind) (past 0
+    (a .kind) zero-le (c .match .rest .0 .0 .0 .1)) (c .match .rest .0 .0 .1)) (c .match .rest .0 .1))
+    (c .match .rest .1)))
 
 pub limit-of-spec : {M : Type 1} → statement M
 limit-of-spec = tie.close (tie.spec returns returns-2 returns-3 returns-4 returns-5)

@@ -10,10 +10,6 @@ use denote.Ref.{now}
 use borrow.Author.Needs.{needs}
 use Rattle.tasklist.proofs.fields.take_counted.Statement.{statement}
 use Rattle.tasklist.proofs.fields.take_counted.Tie as tie
-use Rattle.tasklist.proofs.fields.take_counted.Reads as reads
-use Rattle.tasklist.proofs.fields.take_counted.Lts as lts
-use Rattle.tasklist.proofs.fields.take_number.Reads as take-number-reads
-use Rattle.tasklist.proofs.fields.take_tag.Reads as take-tag-reads
 
 take-tag-requires : tie.Need-take-tag-requires
 take-tag-requires c κs = search needs
@@ -28,10 +24,20 @@ take-number-requires : tie.Need-take-number-requires
 take-number-requires c κs = search needs
 
 returns : tie.Need-returns
-returns c = let a = c .before .before .before .before .before .args in sym (counted-bad (a .second) (a .most) (refusal-number (a .refusal)) (drop (a .at) (now (a .bytes))) (refusal-number (c .before .k .given .0 .0)) (told (λ r. tag-taken r (now (a .bytes))) (c .before .before .before .take-tag .ensures) (c .before .k .given .1)))
+returns c =
+    let a = c .before .before .before .before .before .args in
+    sym (counted-bad (a .second) (a .most) (refusal-number (a .refusal)) (drop (a .at) (now (a .bytes)))
+    (refusal-number (c .before .k .given .0 .0)) (told (λ r. tag-taken r (now (a .bytes)))
+    (c .before .before .before .take-tag .ensures) (c .before .k .given .1)))
 
 returns-2 : tie.Need-returns-2
-returns-2 c = let a = c .before .before .before .before .before .before .args in c .take-number .ensures ∙ sym (counted-tagged (a .second) (a .most) (refusal-number (a .refusal)) (drop (a .at) (now (a .bytes))) tt (drop (c .before .before .p .given .0 .0) (now (a .bytes))) (told (λ r. tag-taken r (now (a .bytes))) (c .before .before .before .before .take-tag .ensures) (c .before .before .p .given .1)))
+returns-2 c =
+    let a = c .before .before .before .before .before .before .args in
+    let take-tag = c .before .before .before .before .take-tag in
+    let p = c .before .before .p in
+    c .take-number .ensures ∙ sym (counted-tagged (a .second) (a .most) (refusal-number (a .refusal)) (drop (a .at)
+    (now (a .bytes))) tt (drop (p .given .0 .0) (now (a .bytes))) (told (λ r. tag-taken r (now (a .bytes)))
+    (take-tag .ensures) (p .given .1)))
 
 pub take-counted-spec : {M : Type 1} → statement M
 take-counted-spec =

@@ -7,16 +7,14 @@ use denote.Ref.{now}
 use borrow.Author.Needs.{needs}
 use Rattle.tasklist.proofs.fields.take_line.Statement.{statement}
 use Rattle.tasklist.proofs.fields.take_line.Tie as tie
-use Rattle.tasklist.proofs.fields.take_line.Reads as reads
-use Rattle.tasklist.proofs.fields.take_line.Lts as lts
-use Rattle.tasklist.proofs.fields.left.Reads as left-reads
-use Rattle.tasklist.proofs.fields.limit_of.Reads as limit-of-reads
 
 left-requires : tie.Need-left-requires
 left-requires c κs = search needs
 
 returns : tie.Need-returns
-returns c = let a = c .before .before .before .args in sym (line-short (a .locations) (now (a .bytes)) (a .at) (omega arith))
+returns c =
+    let a = c .before .before .before .args in
+    sym (line-short (a .locations) (now (a .bytes)) (a .at) (omega arith))
 
 shared-slice-read-kind : tie.Need-shared-slice-read-kind
 shared-slice-read-kind c = search needs
@@ -30,14 +28,26 @@ shared-slice-read-value c = search needs
 limit-of-requires : tie.Need-limit-of-requires
 limit-of-requires c κs = search needs
 
-add-t14 : tie.Need-add-t14
-add-t14 c = search needs
+add-t15 : tie.Need-add-t15
+add-t15 c = search needs
 
 returns-2 : tie.Need-returns-2
-returns-2 c = let a = c .before .before .before .before .before .before .before .args in sym (line-took (a .locations) (now (a .bytes)) (a .at) (omega arith) (omega (arith, c .if2 .taken, c .before .limit-of .ensures)))
+returns-2 c =
+    let a = c .before .before .before .before .before .before .before .args in
+    sym (line-took (a .locations) (now (a .bytes)) (a .at) (omega arith) (omega (
+      arith,
+      c .if2 .taken,
+      c .before .limit-of .ensures,
+    )))
 
 returns-3 : tie.Need-returns-3
-returns-3 c = let a = c .before .before .before .before .before .before .before .args in sym (line-bad (a .locations) (now (a .bytes)) (a .at) (omega arith) (omega (arith, c .if2 .left, c .before .limit-of .ensures)))
+returns-3 c =
+    let a = c .before .before .before .before .before .before .before .args in
+    sym (line-bad (a .locations) (now (a .bytes)) (a .at) (omega arith) (omega (
+      arith,
+      c .if2 .left,
+      c .before .limit-of .ensures,
+    )))
 
 pub take-line-spec : {M : Type 1} → statement M
 take-line-spec =
@@ -49,6 +59,6 @@ take-line-spec =
     add-value
     shared-slice-read-value
     limit-of-requires
-    add-t14
+    add-t15
     returns-2
     returns-3)

@@ -8,30 +8,38 @@ use denote.Ref.{now}
 use borrow.Author.Needs.{needs}
 use Rattle.tasklist.proofs.fields.take_number.Statement.{statement}
 use Rattle.tasklist.proofs.fields.take_number.Tie as tie
-use Rattle.tasklist.proofs.fields.take_number.Reads as reads
-use Rattle.tasklist.proofs.fields.take_number.Lts as lts
-use Rattle.tasklist.proofs.fields.left.Reads as left-reads
 
 left-requires : tie.Need-left-requires
 left-requires c κs = search needs
 
 returns : tie.Need-returns
-returns c = let a = c .before .before .before .args in sym (number-short (a .low) (a .high) (refusal-number (a .refusal)) (now (a .bytes)) (a .at) (omega arith))
+returns c =
+    let a = c .before .before .before .args in
+    sym (number-short (a .low) (a .high) (refusal-number (a .refusal)) (now (a .bytes)) (a .at) (omega arith))
 
 shared-slice-read-n : tie.Need-shared-slice-read-n
 shared-slice-read-n c = search needs
 
 returns-2 : tie.Need-returns-2
-returns-2 c = let a = c .before .before .before .before .before .args in sym (number-low (a .low) (a .high) (refusal-number (a .refusal)) (now (a .bytes)) (a .at) (omega arith) (c .if2 .taken))
+returns-2 c =
+    let a = c .before .before .before .before .before .args in
+    sym (number-low (a .low) (a .high) (refusal-number (a .refusal)) (now (a .bytes)) (a .at) (omega arith)
+    (c .if2 .taken))
 
 returns-3 : tie.Need-returns-3
-returns-3 c = let a = c .before .before .before .before .before .before .args in sym (number-high (a .low) (a .high) (refusal-number (a .refusal)) (now (a .bytes)) (a .at) (omega arith) (c .before .if2 .left) (c .if3 .taken))
+returns-3 c =
+    let a = c .before .before .before .before .before .before .args in
+    sym (number-high (a .low) (a .high) (refusal-number (a .refusal)) (now (a .bytes)) (a .at) (omega arith)
+    (c .before .if2 .left) (c .if3 .taken))
 
 add-t7 : tie.Need-add-t7
 add-t7 c = search needs
 
 returns-4 : tie.Need-returns-4
-returns-4 c = let a = c .before .before .before .before .before .before .args in sym (number-took (a .low) (a .high) (refusal-number (a .refusal)) (now (a .bytes)) (a .at) (omega arith) (c .before .if2 .left) (c .if3 .left))
+returns-4 c =
+    let a = c .before .before .before .before .before .before .args in
+    sym (number-took (a .low) (a .high) (refusal-number (a .refusal)) (now (a .bytes)) (a .at) (omega arith)
+    (c .before .if2 .left) (c .if3 .left))
 
 pub take-number-spec : {M : Type 1} → statement M
 take-number-spec =

@@ -8,9 +8,6 @@ use mathlib.Core.Path.{_≡_, refl, sym, ap, _∙_}
 use borrow.Author.Needs.{needs}
 use Rattle.tasklist.proofs.instructions.form_of.Statement.{statement}
 use Rattle.tasklist.proofs.instructions.form_of.Tie as tie
-use Rattle.tasklist.proofs.instructions.form_of.Reads as reads
-use Rattle.tasklist.proofs.instructions.form_of.Lts as lts
-use Rattle.tasklist.proofs.instructions.if_zero.Reads as if-zero-reads
 
 mul-t8 : tie.Need-mul-t8
 mul-t8 c = search needs
@@ -67,14 +64,25 @@ returns-8 c = c .if-zero4 .ensures ∙ (rw (c .before .match .keys8) refl)
 
 returns-9 : tie.Need-returns-9
 unfolding form forms
-returns-9 c = c .if-zero5 .ensures ∙ (rw (c .before .before .match .keys9, eq-eqb (c .before .before .before .args .b) 0 (c .before .if1 .taken)) refl)
+returns-9 c =
+    c .if-zero5 .ensures ∙ (rw (
+      c .before .before .match .keys9,
+      eq-eqb (c .before .before .before .args .b) 0
+          (c .before .if1 .taken),
+    ) refl)
 
 returns-10 : tie.Need-returns-10
 unfolding form forms
 returns-10 c = rw (c .before .match .keys9, ne-eqb (c .before .before .args .b) 0 (c .if1 .left)) refl
 
 returns-11 : tie.Need-returns-11
-returns-11 c = let a = c .before .args in sym (form-other (a .code) (a .a) (a .b) (a .c) (past 8 (a .code) (past 7 (a .code) (past 6 (a .code) (past 5 (a .code) (past 4 (a .code) (past 3 (a .code) (past 2 (a .code) (past 1 (a .code) (past 0 (a .code) zero-le (c .match .rest .0 .0 .0 .0 .0 .0 .0 .0 .1)) (c .match .rest .0 .0 .0 .0 .0 .0 .0 .1)) (c .match .rest .0 .0 .0 .0 .0 .0 .1)) (c .match .rest .0 .0 .0 .0 .0 .1)) (c .match .rest .0 .0 .0 .0 .1)) (c .match .rest .0 .0 .0 .1)) (c .match .rest .0 .0 .1)) (c .match .rest .0 .1)) (c .match .rest .1)))
+returns-11 c =
+    let a = c .before .args in
+    sym (form-other (a .code) (a .a) (a .b) (a .c) (past 8 (a .code) (past 7 (a .code) (past 6 (a .code) (past 5
+    (a .code) (past 4 (a .code) (past 3 (a .code) (past 2 (a .code) (past 1 (a .code) (past 0 (a .code) zero-le
+    (c .match .rest .0 .0 .0 .0 .0 .0 .0 .0 .1)) (c .match .rest .0 .0 .0 .0 .0 .0 .0 .1))
+    (c .match .rest .0 .0 .0 .0 .0 .0 .1)) (c .match .rest .0 .0 .0 .0 .0 .1)) (c .match .rest .0 .0 .0 .0 .1))
+    (c .match .rest .0 .0 .0 .1)) (c .match .rest .0 .0 .1)) (c .match .rest .0 .1)) (c .match .rest .1)))
 
 pub form-of-spec : {M : Type 1} → statement M
 form-of-spec =

@@ -4,8 +4,6 @@ use borrow.Author.Tests.{eq-eqb, ne-eqb}
 use mathlib.Core.Path.{_≡_, refl, sym, ap, _∙_}
 use Rattle.tasklist.proofs.instructions.if_zero.Statement.{statement}
 use Rattle.tasklist.proofs.instructions.if_zero.Tie as tie
-use Rattle.tasklist.proofs.instructions.if_zero.Reads as reads
-use Rattle.tasklist.proofs.instructions.if_zero.Lts as lts
 
 returns : tie.Need-returns
 returns c = rw (eq-eqb (c .before .args .byte) 0 (c .if1 .taken)) refl

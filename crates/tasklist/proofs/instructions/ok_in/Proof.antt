@@ -6,11 +6,6 @@ use mathlib.Core.Path.{_≡_, refl, sym, ap, _∙_}
 use borrow.Author.Needs.{needs}
 use Rattle.tasklist.proofs.instructions.ok_in.Statement.{statement}
 use Rattle.tasklist.proofs.instructions.ok_in.Tie as tie
-use Rattle.tasklist.proofs.instructions.ok_in.Reads as reads
-use Rattle.tasklist.proofs.instructions.ok_in.Lts as lts
-use Rattle.tasklist.proofs.instructions.registers.Reads as registers-reads
-use Rattle.tasklist.proofs.instructions.skips.Reads as skips-reads
-use Rattle.tasklist.proofs.instructions.spawns.Reads as spawns-reads
 
 enum-known-instruction : tie.Need-enum-known-instruction
 enum-known-instruction c = search needs
@@ -80,43 +75,76 @@ registers-requires-8 c κs = search needs
 
 returns : tie.Need-returns
 unfolding instruction-ok
-returns c = let a = c .before .before .before .before .args in c .registers .ensures ∙ registers-one (c .before .before .instruction .given .0 .0) ∙ (ap (instruction-ok (a .at)) (sym (c .before .before .instruction .given .1)))
+returns c =
+    let instruction = c .before .before .instruction in
+    let a = c .before .before .before .before .args in
+    c .registers .ensures ∙ registers-one (instruction .given .0 .0) ∙ (ap (instruction-ok (a .at)) (sym
+    (instruction .given .1)))
 
 returns-2 : tie.Need-returns-2
 unfolding instruction-ok
-returns-2 c = let a = c .before .before .before .before .args in c .registers2 .ensures ∙ (ap (instruction-ok (a .at)) (sym (c .before .before .instruction2 .given .1)))
+returns-2 c =
+    let a = c .before .before .before .before .args in
+    c .registers2 .ensures ∙ (ap (instruction-ok (a .at)) (sym (c .before .before .instruction2 .given .1)))
 
 returns-3 : tie.Need-returns-3
 unfolding instruction-ok
-returns-3 c = let a = c .before .before .before .before .args in c .registers3 .ensures ∙ (ap (instruction-ok (a .at)) (sym (c .before .before .instruction3 .given .1)))
+returns-3 c =
+    let a = c .before .before .before .before .args in
+    c .registers3 .ensures ∙ (ap (instruction-ok (a .at)) (sym (c .before .before .instruction3 .given .1)))
 
 returns-4 : tie.Need-returns-4
 unfolding instruction-ok
-returns-4 c = let a = c .before .before .before .before .args in c .registers4 .ensures ∙ (ap (instruction-ok (a .at)) (sym (c .before .before .instruction4 .given .1)))
+returns-4 c =
+    let a = c .before .before .before .before .args in
+    c .registers4 .ensures ∙ (ap (instruction-ok (a .at)) (sym (c .before .before .instruction4 .given .1)))
 
 returns-5 : tie.Need-returns-5
 unfolding instruction-ok
-returns-5 c = let a = c .before .before .before .before .args in c .registers5 .ensures ∙ registers-two (c .before .before .instruction5 .given .0 .0) (c .before .before .instruction5 .given .0 .1 .0) ∙ (ap (instruction-ok (a .at)) (sym (c .before .before .instruction5 .given .1)))
+returns-5 c =
+    let instruction5 = c .before .before .instruction5 in
+    let a = c .before .before .before .before .args in
+    c .registers5 .ensures ∙ registers-two (instruction5 .given .0 .0) (instruction5 .given .0 .1 .0) ∙ (ap
+    (instruction-ok (a .at)) (sym (instruction5 .given .1)))
 
 returns-6 : tie.Need-returns-6
 unfolding instruction-ok
-returns-6 c = let a = c .before .before .before .before .args in c .registers6 .ensures ∙ registers-two (c .before .before .instruction6 .given .0 .0) (c .before .before .instruction6 .given .0 .1 .0) ∙ (ap (instruction-ok (a .at)) (sym (c .before .before .instruction6 .given .1)))
+returns-6 c =
+    let instruction6 = c .before .before .instruction6 in
+    let a = c .before .before .before .before .args in
+    c .registers6 .ensures ∙ registers-two (instruction6 .given .0 .0) (instruction6 .given .0 .1 .0) ∙ (ap
+    (instruction-ok (a .at)) (sym (instruction6 .given .1)))
 
 returns-7 : tie.Need-returns-7
 unfolding instruction-ok
-returns-7 c = let a = c .before .before .before .before .before .before .args in c .skips .ensures ∙ (rw (sym (registers-one (c .before .before .before .before .instruction7 .given .0 .0)) ∙ sym (c .before .before .registers7 .ensures) ∙ c .before .if1 .taken) refl) ∙ (ap (instruction-ok (a .at)) (sym (c .before .before .before .before .instruction7 .given .1)))
+returns-7 c =
+    let a = c .before .before .before .before .before .before .args in
+    let instruction7 = c .before .before .before .before .instruction7 in
+    c .skips .ensures ∙ (rw (sym (registers-one (instruction7 .given .0 .0)) ∙ sym
+    (c .before .before .registers7 .ensures) ∙ c .before .if1 .taken) refl) ∙ (ap (instruction-ok (a .at)) (sym
+    (instruction7 .given .1)))
 
 returns-8 : tie.Need-returns-8
 unfolding instruction-ok
-returns-8 c = let a = c .before .before .before .before .before .args in (rw (sym (registers-one (c .before .before .before .instruction7 .given .0 .0)) ∙ sym (c .before .registers7 .ensures) ∙ c .if1 .left) refl) ∙ (ap (instruction-ok (a .at)) (sym (c .before .before .before .instruction7 .given .1)))
+returns-8 c =
+    let a = c .before .before .before .before .before .args in
+    let instruction7 = c .before .before .before .instruction7 in
+    (rw (sym (registers-one (instruction7 .given .0 .0)) ∙ sym (c .before .registers7 .ensures) ∙ c .if1 .left) refl)
+    ∙ (ap (instruction-ok (a .at)) (sym (instruction7 .given .1)))
 
 returns-9 : tie.Need-returns-9
 unfolding instruction-ok
-returns-9 c = let a = c .before .before .before .before .args in c .spawns .ensures ∙ (ap (instruction-ok (a .at)) (sym (c .before .before .instruction8 .given .1)))
+returns-9 c =
+    let a = c .before .before .before .before .args in
+    c .spawns .ensures ∙ (ap (instruction-ok (a .at)) (sym (c .before .before .instruction8 .given .1)))
 
 returns-10 : tie.Need-returns-10
 unfolding instruction-ok
-returns-10 c = let a = c .before .before .before .before .args in c .registers8 .ensures ∙ registers-one (c .before .before .instruction9 .given .0 .0) ∙ (ap (instruction-ok (a .at)) (sym (c .before .before .instruction9 .given .1)))
+returns-10 c =
+    let instruction9 = c .before .before .instruction9 in
+    let a = c .before .before .before .before .args in
+    c .registers8 .ensures ∙ registers-one (instruction9 .given .0 .0) ∙ (ap (instruction-ok (a .at)) (sym
+    (instruction9 .given .1)))
 
 pub ok-in-spec : {M : Type 1} → statement M
 ok-in-spec =

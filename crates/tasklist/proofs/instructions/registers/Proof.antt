@@ -5,16 +5,18 @@ use borrow.Author.Tests.{lt-ltb, le-ltb}
 use mathlib.Core.Path.{_≡_, refl, sym, ap, _∙_}
 use Rattle.tasklist.proofs.instructions.registers.Statement.{statement}
 use Rattle.tasklist.proofs.instructions.registers.Tie as tie
-use Rattle.tasklist.proofs.instructions.registers.Reads as reads
-use Rattle.tasklist.proofs.instructions.registers.Lts as lts
 
 returns : tie.Need-returns
 unfolding register
-returns c = rw (lt-ltb (c .before .before .args .a) 4 (c .before .if1 .taken), lt-ltb (c .before .before .args .b) 4 (c .if2 .taken)) refl
+returns c =
+    let args = c .before .before .args in
+    rw (lt-ltb (args .a) 4 (c .before .if1 .taken), lt-ltb (args .b) 4 (c .if2 .taken)) refl
 
 returns-2 : tie.Need-returns-2
 unfolding register
-returns-2 c = rw (lt-ltb (c .before .before .args .a) 4 (c .before .if1 .taken), le-ltb (c .before .before .args .b) 4 (c .if2 .left)) refl
+returns-2 c =
+    let args = c .before .before .args in
+    rw (lt-ltb (args .a) 4 (c .before .if1 .taken), le-ltb (args .b) 4 (c .if2 .left)) refl
 
 returns-3 : tie.Need-returns-3
 unfolding register

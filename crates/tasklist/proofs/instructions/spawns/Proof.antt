@@ -4,14 +4,24 @@ use borrow.Author.Tests.{lt-ltb, le-ltb}
 use mathlib.Core.Path.{_≡_, refl, sym, ap, _∙_}
 use Rattle.tasklist.proofs.instructions.spawns.Statement.{statement}
 use Rattle.tasklist.proofs.instructions.spawns.Tie as tie
-use Rattle.tasklist.proofs.instructions.spawns.Reads as reads
-use Rattle.tasklist.proofs.instructions.spawns.Lts as lts
 
 returns : tie.Need-returns
-returns c = let a = c .before .before .before .before .before .args in rw (lt-ltb (a .at .body) (a .body) (c .before .before .before .if1 .taken), lt-ltb (a .body) (a .at .bodies) (c .before .if2 .taken)) refl
+returns c =
+    let a = c .before .before .before .before .before .args in
+    rw (
+      lt-ltb (a .at .body) (a .body) (c .before .before .before .if1 .taken),
+      lt-ltb (a .body) (a .at .bodies)
+          (c .before .if2 .taken),
+    ) refl
 
 returns-2 : tie.Need-returns-2
-returns-2 c = let a = c .before .before .before .before .args in rw (lt-ltb (a .at .body) (a .body) (c .before .before .if1 .taken), le-ltb (a .body) (a .at .bodies) (c .if2 .left)) refl
+returns-2 c =
+    let a = c .before .before .before .before .args in
+    rw (
+      lt-ltb (a .at .body) (a .body) (c .before .before .if1 .taken),
+      le-ltb (a .body) (a .at .bodies)
+          (c .if2 .left),
+    ) refl
 
 returns-3 : tie.Need-returns-3
 returns-3 c = let a = c .before .before .args in rw (le-ltb (a .at .body) (a .body) (c .if1 .left)) refl

@@ -8,17 +8,14 @@ use denote.Ref.{now}
 use borrow.Author.Needs.{needs}
 use Rattle.tasklist.proofs.instructions.take_instruction.Statement.{statement}
 use Rattle.tasklist.proofs.instructions.take_instruction.Tie as tie
-use Rattle.tasklist.proofs.instructions.take_instruction.Reads as reads
-use Rattle.tasklist.proofs.instructions.take_instruction.Lts as lts
-use Rattle.tasklist.proofs.fields.left.Reads as left-reads
-use Rattle.tasklist.proofs.instructions.form_of.Reads as form-of-reads
-use Rattle.tasklist.proofs.instructions.ok_in.Reads as ok-in-reads
 
 left-requires : tie.Need-left-requires
 left-requires c κs = search needs
 
 returns : tie.Need-returns
-returns c = let a = c .before .before .before .args in sym (instruction-short (a .scope) (now (a .bytes)) (a .at) (omega arith))
+returns c =
+    let a = c .before .before .before .args in
+    sym (instruction-short (a .scope) (now (a .bytes)) (a .at) (omega arith))
 
 shared-slice-read-form-of : tie.Need-shared-slice-read-form-of
 shared-slice-read-form-of c = search needs
@@ -54,16 +51,32 @@ ok-in-requires : tie.Need-ok-in-requires
 ok-in-requires c κs = search needs
 
 add-t23 : tie.Need-add-t23
-add-t23 c = omega (arith, c .before .before .before .before .before .before .before .before .before .before .before .left .ensures, c .before .before .before .before .before .before .before .before .before .before .if1 .left)
+add-t23 c =
+    let left = c .before .before .before .before .before .before .before .before .before .before .before .left in
+    let if1 = c .before .before .before .before .before .before .before .before .before .before .if1 in
+    omega (arith, left .ensures, if1 .left)
 
 returns-2 : tie.Need-returns-2
-returns-2 c = let a = c .before .before .before .before .before .before .before .before .before .before .args in sym (instruction-unknown (a .scope) (now (a .bytes)) (a .at) (omega arith) (told formed (c .before .before .form-of .ensures) (c .enum-told .given .1)))
+returns-2 c =
+    let a = c .before .before .before .before .before .before .before .before .before .before .args in
+    sym (instruction-unknown (a .scope) (now (a .bytes)) (a .at) (omega arith) (told formed
+    (c .before .before .form-of .ensures) (c .enum-told .given .1)))
 
 returns-3 : tie.Need-returns-3
-returns-3 c = let a = c .before .before .before .before .before .before .before .before .before .before .before .before .before .args in sym (instruction-took (a .scope) (now (a .bytes)) (a .at) (c .before .before .before .x .given .0 .0) (omega arith) (told formed (c .before .before .before .before .before .form-of .ensures) (c .before .before .before .x .given .1)) (sym (c .before .ok-in .ensures) ∙ c .if2 .taken))
+returns-3 c =
+    let a = c .before .before .before .before .before .before .before .before .before .before .before .before .before .args in
+    let form-of = c .before .before .before .before .before .form-of in
+    let x = c .before .before .before .x in
+    sym (instruction-took (a .scope) (now (a .bytes)) (a .at) (x .given .0 .0) (omega arith) (told formed
+    (form-of .ensures) (x .given .1)) (sym (c .before .ok-in .ensures) ∙ c .if2 .taken))
 
 returns-4 : tie.Need-returns-4
-returns-4 c = let a = c .before .before .before .before .before .before .before .before .before .before .before .before .before .args in sym (instruction-bad (a .scope) (now (a .bytes)) (a .at) (c .before .before .before .x .given .0 .0) (omega arith) (told formed (c .before .before .before .before .before .form-of .ensures) (c .before .before .before .x .given .1)) (sym (c .before .ok-in .ensures) ∙ c .if2 .left))
+returns-4 c =
+    let a = c .before .before .before .before .before .before .before .before .before .before .before .before .before .args in
+    let form-of = c .before .before .before .before .before .form-of in
+    let x = c .before .before .before .x in
+    sym (instruction-bad (a .scope) (now (a .bytes)) (a .at) (x .given .0 .0) (omega arith) (told formed
+    (form-of .ensures) (x .given .1)) (sym (c .before .ok-in .ensures) ∙ c .if2 .left))
 
 pub take-instruction-spec : {M : Type 1} → statement M
 take-instruction-spec =

@@ -4,8 +4,6 @@ use Rattle.tasklist.specs.Tables.{blank-tables}
 use mathlib.Core.Path.{_≡_, refl, sym, ap, _∙_, subst}
 use Rattle.tasklist.proofs.reader.blank.Statement.{statement}
 use Rattle.tasklist.proofs.reader.blank.Tie as tie
-use Rattle.tasklist.proofs.reader.blank.Reads as reads
-use Rattle.tasklist.proofs.reader.blank.Lts as lts
 
 returns : tie.Need-returns
 unfolding blank-tables

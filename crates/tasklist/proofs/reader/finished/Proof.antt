@@ -13,10 +13,6 @@ use denote.Ref.{now}
 use borrow.Author.Needs.{needs}
 use Rattle.tasklist.proofs.reader.finished.Statement.{statement}
 use Rattle.tasklist.proofs.reader.finished.Tie as tie
-use Rattle.tasklist.proofs.reader.finished.Reads as reads
-use Rattle.tasklist.proofs.reader.finished.Lts as lts
-use Rattle.tasklist.proofs.counts.task_counts.Reads as task-counts-reads
-use Rattle.tasklist.proofs.reader.refusal.Reads as refusal-reads
 
 cast-task-counts : tie.Need-cast-task-counts
 cast-task-counts c = search needs
@@ -32,11 +28,43 @@ refusal-requires c κs = search needs
 
 returns : tie.Need-returns
 unfolding task-count
-returns c = let n : getD (c .before .before .task-counts .result) 0 0 ≡ capped (task-count (record { locations = c .before .before .before .before .before .before .before .before .args .head .locations; footprints = footprint-rows (c .before .before .before .before .before .before .before .before .args .head .footprints) (c .before .before .before .before .before .before .before .before .args .f); bodies = body-rows (c .before .before .before .before .before .before .before .before .args .head .bodies) (c .before .before .before .before .before .before .before .before .args .b) }) 0) = getD-default (c .before .before .task-counts .result) 0 0 1 (search needs) ∙ c .before .before .task-counts .ensures 0 in subst (λ d. ReadAs d (c .refusal .result)) (sym (sized-many (record { locations = c .before .before .before .before .before .before .before .before .args .head .locations; footprints = footprint-rows (c .before .before .before .before .before .before .before .before .args .head .footprints) (c .before .before .before .before .before .before .before .before .args .f); bodies = body-rows (c .before .before .before .before .before .before .before .before .args .head .bodies) (c .before .before .before .before .before .before .before .before .args .b) }) (omega (arith, n, c .before .if1 .taken)))) (c .refusal .ensures)
+returns c =
+    let args = c .before .before .before .before .before .before .before .before .args in
+    let task-counts = c .before .before .task-counts in
+    let n : getD (task-counts .result) 0 0 ≡ capped (task-count (record {
+      locations = args .head .locations;
+      footprints = footprint-rows (args .head .footprints) (args .f);
+      bodies = body-rows (args .head .bodies) (args .b);
+    }) 0) = getD-default (task-counts .result) 0 0 1 (search needs) ∙ task-counts .ensures 0 in
+    subst (λ d. ReadAs d (c .refusal .result)) (sym (sized-many (record {
+      locations = args .head .locations;
+      footprints = footprint-rows (args .head .footprints) (args .f);
+      bodies = body-rows (args .head .bodies) (args .b);
+    }) (omega (arith, n, c .before .if1 .taken)))) (c .refusal .ensures)
 
 returns-2 : tie.Need-returns-2
 unfolding task-count list-of
-returns-2 c = let n : getD (c .before .task-counts .result) 0 0 ≡ capped (task-count (record { locations = c .before .before .before .before .before .before .before .args .head .locations; footprints = footprint-rows (c .before .before .before .before .before .before .before .args .head .footprints) (c .before .before .before .before .before .before .before .args .f); bodies = body-rows (c .before .before .before .before .before .before .before .args .head .bodies) (c .before .before .before .before .before .before .before .args .b) }) 0) = getD-default (c .before .task-counts .result) 0 0 1 (search needs) ∙ c .before .task-counts .ensures 0 in accepted-reading (record { locations = c .before .before .before .before .before .before .before .args .head .locations; footprints = c .before .before .before .before .before .before .before .args .head .footprints; bodies = c .before .before .before .before .before .before .before .args .head .bodies; widths = c .before .before .before .before .before .before .before .args .f .widths; lines = c .before .before .before .before .before .before .before .args .f .lines; sizes = c .before .before .before .before .before .before .before .args .b .sizes; cells = c .before .before .before .before .before .before .before .args .b .cells; counts = c .before .task-counts .result }) (getD (c .before .task-counts .result) 0 0) n (c .if1 .left) (c .before .task-counts .ensures)
+returns-2 c =
+    let args = c .before .before .before .before .before .before .before .args in
+    let task-counts = c .before .task-counts in
+    let n : getD (task-counts .result) 0 0 ≡ capped (task-count (record {
+      locations = args .head .locations;
+      footprints = footprint-rows (args .head .footprints) (args .f);
+      bodies = body-rows (args .head .bodies) (args .b);
+    }) 0) = getD-default (task-counts .result) 0 0 1 (search needs) ∙ task-counts .ensures 0 in
+    accepted-reading (record {
+      locations = args .head .locations;
+      footprints = args .head .footprints;
+      bodies =
+          args .head .bodies;
+      widths = args .f .widths;
+      lines = args .f .lines;
+      sizes = args .b .sizes;
+      cells =
+          args .b .cells;
+      counts = task-counts .result;
+    }) (getD (task-counts .result) 0 0) n (c .if1 .left)
+    (task-counts .ensures)
 
 pub finished-spec : {M : Type 1} → statement M
 finished-spec =

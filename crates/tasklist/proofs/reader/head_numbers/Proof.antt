@@ -12,9 +12,6 @@ use denote.Ref.{now}
 use borrow.Author.Needs.{needs}
 use Rattle.tasklist.proofs.reader.head_numbers.Statement.{statement}
 use Rattle.tasklist.proofs.reader.head_numbers.Tie as tie
-use Rattle.tasklist.proofs.reader.head_numbers.Reads as reads
-use Rattle.tasklist.proofs.reader.head_numbers.Lts as lts
-use Rattle.tasklist.proofs.fields.take_number.Reads as take-number-reads
 
 take-number-requires : tie.Need-take-number-requires
 take-number-requires c κs = search needs
@@ -45,19 +42,65 @@ enum-known-bodies c = search needs
 
 returns : tie.Need-returns
 unfolding head-numbers
-returns c = let a = c .before .before .before .before .before .args in let e₁ : number 1 64 3 (drop (a .at) (now (a .bytes))) ≡ bad (refusal-number (c .before .k .given .0 .0)) = told (λ r. number-taken r (now (a .bytes))) (c .before .before .before .take-number .ensures) (c .before .k .given .1) in rw e₁ refl
+returns c =
+    let a = c .before .before .before .before .before .args in
+    let e₁ : number 1 64 3 (drop (a .at) (now (a .bytes))) ≡ bad (refusal-number (c .before .k .given .0 .0)) = told
+    (λ r. number-taken r (now (a .bytes))) (c .before .before .before .take-number .ensures) (c .before .k .given .1)
+    in
+    rw e₁ refl
 
 returns-2 : tie.Need-returns-2
 unfolding head-numbers
-returns-2 c = let a = c .before .before .before .before .before .before .before .before .before .args in let e₁ : number 1 64 3 (drop (a .at) (now (a .bytes))) ≡ took (c .before .before .before .before .before .locations .given .0 .0) (drop (c .before .before .before .before .before .locations .given .0 .1 .0) (now (a .bytes))) = told (λ r. number-taken r (now (a .bytes))) (c .before .before .before .before .before .before .before .take-number .ensures) (c .before .before .before .before .before .locations .given .1) in let e₂ : number 0 32 3 (drop (c .before .before .before .before .before .locations .given .0 .1 .0) (now (a .bytes))) ≡ bad (refusal-number (c .before .k2 .given .0 .0)) = told (λ r. number-taken r (now (a .bytes))) (c .before .before .before .take-number2 .ensures) (c .before .k2 .given .1) in rw (e₁, e₂) refl
+returns-2 c =
+    let a = c .before .before .before .before .before .before .before .before .before .args in
+    let take-number = c .before .before .before .before .before .before .before .take-number in
+    let locations = c .before .before .before .before .before .locations in
+    let e₁ : number 1 64 3 (drop (a .at) (now (a .bytes))) ≡ took (locations .given .0 .0) (drop
+    (locations .given .0 .1 .0) (now (a .bytes))) = told (λ r. number-taken r (now (a .bytes))) (take-number .ensures)
+    (locations .given .1) in
+    let e₂ : number 0 32 3 (drop (locations .given .0 .1 .0) (now (a .bytes))) ≡ bad (refusal-number
+    (c .before .k2 .given .0 .0)) = told (λ r. number-taken r (now (a .bytes)))
+    (c .before .before .before .take-number2 .ensures) (c .before .k2 .given .1) in
+    rw (e₁, e₂) refl
 
 returns-3 : tie.Need-returns-3
 unfolding head-numbers
-returns-3 c = let a = c .before .before .before .before .before .before .before .before .before .before .before .before .before .args in let e₁ : number 1 64 3 (drop (a .at) (now (a .bytes))) ≡ took (c .before .before .before .before .before .before .before .before .before .locations .given .0 .0) (drop (c .before .before .before .before .before .before .before .before .before .locations .given .0 .1 .0) (now (a .bytes))) = told (λ r. number-taken r (now (a .bytes))) (c .before .before .before .before .before .before .before .before .before .before .before .take-number .ensures) (c .before .before .before .before .before .before .before .before .before .locations .given .1) in let e₂ : number 0 32 3 (drop (c .before .before .before .before .before .before .before .before .before .locations .given .0 .1 .0) (now (a .bytes))) ≡ took (c .before .before .before .before .before .footprints .given .0 .0) (drop (c .before .before .before .before .before .footprints .given .0 .1 .0) (now (a .bytes))) = told (λ r. number-taken r (now (a .bytes))) (c .before .before .before .before .before .before .before .take-number2 .ensures) (c .before .before .before .before .before .footprints .given .1) in let e₃ : number 1 32 3 (drop (c .before .before .before .before .before .footprints .given .0 .1 .0) (now (a .bytes))) ≡ bad (refusal-number (c .before .k3 .given .0 .0)) = told (λ r. number-taken r (now (a .bytes))) (c .before .before .before .take-number3 .ensures) (c .before .k3 .given .1) in rw (e₁, e₂, e₃) refl
+returns-3 c =
+    let a = c .before .before .before .before .before .before .before .before .before .before .before .before .before .args in
+    let take-number = c .before .before .before .before .before .before .before .before .before .before .before .take-number in
+    let locations = c .before .before .before .before .before .before .before .before .before .locations in
+    let take-number2 = c .before .before .before .before .before .before .before .take-number2 in
+    let footprints = c .before .before .before .before .before .footprints in
+    let e₁ : number 1 64 3 (drop (a .at) (now (a .bytes))) ≡ took (locations .given .0 .0) (drop
+    (locations .given .0 .1 .0) (now (a .bytes))) = told (λ r. number-taken r (now (a .bytes))) (take-number .ensures)
+    (locations .given .1) in
+    let e₂ : number 0 32 3 (drop (locations .given .0 .1 .0) (now (a .bytes))) ≡ took (footprints .given .0 .0) (drop
+    (footprints .given .0 .1 .0) (now (a .bytes))) = told (λ r. number-taken r (now (a .bytes)))
+    (take-number2 .ensures) (footprints .given .1) in
+    let e₃ : number 1 32 3 (drop (footprints .given .0 .1 .0) (now (a .bytes))) ≡ bad (refusal-number
+    (c .before .k3 .given .0 .0)) = told (λ r. number-taken r (now (a .bytes)))
+    (c .before .before .before .take-number3 .ensures) (c .before .k3 .given .1) in
+    rw (e₁, e₂, e₃) refl
 
 returns-4 : tie.Need-returns-4
 unfolding head-numbers
-returns-4 c = let a = c .before .before .before .before .before .before .before .before .before .before .before .before .before .args in let e₁ : number 1 64 3 (drop (a .at) (now (a .bytes))) ≡ took (c .before .before .before .before .before .before .before .before .before .locations .given .0 .0) (drop (c .before .before .before .before .before .before .before .before .before .locations .given .0 .1 .0) (now (a .bytes))) = told (λ r. number-taken r (now (a .bytes))) (c .before .before .before .before .before .before .before .before .before .before .before .take-number .ensures) (c .before .before .before .before .before .before .before .before .before .locations .given .1) in let e₂ : number 0 32 3 (drop (c .before .before .before .before .before .before .before .before .before .locations .given .0 .1 .0) (now (a .bytes))) ≡ took (c .before .before .before .before .before .footprints .given .0 .0) (drop (c .before .before .before .before .before .footprints .given .0 .1 .0) (now (a .bytes))) = told (λ r. number-taken r (now (a .bytes))) (c .before .before .before .before .before .before .before .take-number2 .ensures) (c .before .before .before .before .before .footprints .given .1) in let e₃ : number 1 32 3 (drop (c .before .before .before .before .before .footprints .given .0 .1 .0) (now (a .bytes))) ≡ took (c .before .bodies .given .0 .0) (drop (c .before .bodies .given .0 .1 .0) (now (a .bytes))) = told (λ r. number-taken r (now (a .bytes))) (c .before .before .before .take-number3 .ensures) (c .before .bodies .given .1) in rw (e₁, e₂, e₃) refl
+returns-4 c =
+    let a = c .before .before .before .before .before .before .before .before .before .before .before .before .before .args in
+    let take-number = c .before .before .before .before .before .before .before .before .before .before .before .take-number in
+    let locations = c .before .before .before .before .before .before .before .before .before .locations in
+    let take-number2 = c .before .before .before .before .before .before .before .take-number2 in
+    let footprints = c .before .before .before .before .before .footprints in
+    let bodies = c .before .bodies in
+    let e₁ : number 1 64 3 (drop (a .at) (now (a .bytes))) ≡ took (locations .given .0 .0) (drop
+    (locations .given .0 .1 .0) (now (a .bytes))) = told (λ r. number-taken r (now (a .bytes))) (take-number .ensures)
+    (locations .given .1) in
+    let e₂ : number 0 32 3 (drop (locations .given .0 .1 .0) (now (a .bytes))) ≡ took (footprints .given .0 .0) (drop
+    (footprints .given .0 .1 .0) (now (a .bytes))) = told (λ r. number-taken r (now (a .bytes)))
+    (take-number2 .ensures) (footprints .given .1) in
+    let e₃ : number 1 32 3 (drop (footprints .given .0 .1 .0) (now (a .bytes))) ≡ took (bodies .given .0 .0) (drop
+    (bodies .given .0 .1 .0) (now (a .bytes))) = told (λ r. number-taken r (now (a .bytes)))
+    (c .before .before .before .take-number3 .ensures) (bodies .given .1) in
+    rw (e₁, e₂, e₃) refl
 
 pub head-numbers-spec : {M : Type 1} → statement M
 head-numbers-spec =

@@ -12,13 +12,6 @@ use denote.Ref.{now}
 use borrow.Author.Needs.{needs}
 use Rattle.tasklist.proofs.reader.read_records.Statement.{statement}
 use Rattle.tasklist.proofs.reader.read_records.Tie as tie
-use Rattle.tasklist.proofs.reader.read_records.Reads as reads
-use Rattle.tasklist.proofs.reader.read_records.Lts as lts
-use Rattle.tasklist.proofs.fields.left.Reads as left-reads
-use Rattle.tasklist.proofs.reader.finished.Reads as finished-reads
-use Rattle.tasklist.proofs.reader.read_bodies.Reads as read-bodies-reads
-use Rattle.tasklist.proofs.reader.read_footprints.Reads as read-footprints-reads
-use Rattle.tasklist.proofs.reader.refusal.Reads as refusal-reads
 
 read-footprints-requires : tie.Need-read-footprints-requires
 read-footprints-requires c κs = search needs
@@ -51,19 +44,71 @@ refusal-requires-3 : tie.Need-refusal-requires-3
 refusal-requires-3 c κs = search needs
 
 returns : tie.Need-returns
-returns c = subst (λ d. ReadAs d (c .refusal3 .result)) (sym (finish-leftover (c .before .before .before .before .before .before .before .before .before .before .before .before .args .head) (drop (c .before .before .before .before .before .before .before .before .before .before .before .before .args .at) (now (c .before .before .before .before .before .before .before .before .before .before .before .before .args .bytes))) (footprint-rows (c .before .before .before .before .before .before .before .before .before .before .before .before .args .head .footprints) (c .before .before .before .before .before .before .before .before .before .before .read-footprints .result)) (drop (c .before .before .before .before .before .before .before .before .behind2 .given .0 .0) (now (c .before .before .before .before .before .before .before .before .before .before .before .before .args .bytes))) (told (λ n. ended n (footprint-rows (c .before .before .before .before .before .before .before .before .before .before .before .before .args .head .footprints) (c .before .before .before .before .before .before .before .before .before .before .read-footprints .result)) (now (c .before .before .before .before .before .before .before .before .before .before .before .before .args .bytes))) (c .before .before .before .before .before .before .before .before .before .before .read-footprints .ensures) (c .before .before .before .before .before .before .before .before .behind2 .given .1)) (body-rows (c .before .before .before .before .before .before .before .before .before .before .before .before .args .head .bodies) (c .before .before .before .before .before .before .read-bodies .result)) (drop (c .before .before .before .before .end2 .given .0 .0) (now (c .before .before .before .before .before .before .before .before .before .before .before .before .args .bytes))) (told (λ n. ended n (body-rows (c .before .before .before .before .before .before .before .before .before .before .before .before .args .head .bodies) (c .before .before .before .before .before .before .read-bodies .result)) (now (c .before .before .before .before .before .before .before .before .before .before .before .before .args .bytes))) (c .before .before .before .before .before .before .read-bodies .ensures) (c .before .before .before .before .end2 .given .1)) (omega (arith, c .before .before .left .ensures, c .before .if1 .taken, length-drop (c .before .before .before .before .end2 .given .0 .0) (now (c .before .before .before .before .before .before .before .before .before .before .before .before .args .bytes)))))) (c .refusal3 .ensures)
+returns c =
+    let args = c .before .before .before .before .before .before .before .before .before .before .before .before .args in
+    let read-footprints = c .before .before .before .before .before .before .before .before .before .before .read-footprints in
+    let behind2 = c .before .before .before .before .before .before .before .before .behind2 in
+    let read-bodies = c .before .before .before .before .before .before .read-bodies in
+    let end2 = c .before .before .before .before .end2 in
+    subst (λ d. ReadAs d (c .refusal3 .result)) (sym (finish-leftover (args .head) (drop (args .at) (now
+    (args .bytes))) (footprint-rows (args .head .footprints) (read-footprints .result)) (drop (behind2 .given .0 .0)
+    (now (args .bytes))) (told (λ n. ended n (footprint-rows (args .head .footprints) (read-footprints .result)) (now
+    (args .bytes))) (read-footprints .ensures) (behind2 .given .1)) (body-rows (args .head .bodies)
+    (read-bodies .result)) (drop (end2 .given .0 .0) (now (args .bytes))) (told (λ n. ended n (body-rows
+    (args .head .bodies) (read-bodies .result)) (now (args .bytes))) (read-bodies .ensures) (end2 .given .1)) (omega (
+      arith,
+      c .before .before .left .ensures,
+      c .before .if1 .taken,
+      length-drop (end2 .given .0 .0) (now
+          (args .bytes)),
+    )))) (c .refusal3 .ensures)
 
 finished-requires : tie.Need-finished-requires
 finished-requires c κs = search needs
 
 returns-2 : tie.Need-returns-2
-returns-2 c = subst (λ d. ReadAs d (c .refusal .result)) (sym (finish-footprints-bad (c .before .before .before .before .before .before .args .head) (drop (c .before .before .before .before .before .before .args .at) (now (c .before .before .before .before .before .before .args .bytes))) (refusal-number (c .before .before .behind .given .0 .0)) (told (λ n. ended n (footprint-rows (c .before .before .before .before .before .before .args .head .footprints) (c .before .before .before .before .read-footprints .result)) (now (c .before .before .before .before .before .before .args .bytes))) (c .before .before .before .before .read-footprints .ensures) (c .before .before .behind .given .1)))) (c .refusal .ensures)
+returns-2 c =
+    let args = c .before .before .before .before .before .before .args in
+    let read-footprints = c .before .before .before .before .read-footprints in
+    let behind = c .before .before .behind in
+    subst (λ d. ReadAs d (c .refusal .result)) (sym (finish-footprints-bad (args .head) (drop (args .at) (now
+    (args .bytes))) (refusal-number (behind .given .0 .0)) (told (λ n. ended n (footprint-rows
+    (args .head .footprints) (read-footprints .result)) (now (args .bytes))) (read-footprints .ensures)
+    (behind .given .1)))) (c .refusal .ensures)
 
 returns-3 : tie.Need-returns-3
-returns-3 c = subst (λ d. ReadAs d (c .refusal2 .result)) (sym (finish-bodies-bad (c .before .before .before .before .before .before .before .before .before .before .args .head) (drop (c .before .before .before .before .before .before .before .before .before .before .args .at) (now (c .before .before .before .before .before .before .before .before .before .before .args .bytes))) (footprint-rows (c .before .before .before .before .before .before .before .before .before .before .args .head .footprints) (c .before .before .before .before .before .before .before .before .read-footprints .result)) (drop (c .before .before .before .before .before .before .behind2 .given .0 .0) (now (c .before .before .before .before .before .before .before .before .before .before .args .bytes))) (told (λ n. ended n (footprint-rows (c .before .before .before .before .before .before .before .before .before .before .args .head .footprints) (c .before .before .before .before .before .before .before .before .read-footprints .result)) (now (c .before .before .before .before .before .before .before .before .before .before .args .bytes))) (c .before .before .before .before .before .before .before .before .read-footprints .ensures) (c .before .before .before .before .before .before .behind2 .given .1)) (refusal-number (c .before .before .end .given .0 .0)) (told (λ n. ended n (body-rows (c .before .before .before .before .before .before .before .before .before .before .args .head .bodies) (c .before .before .before .before .read-bodies .result)) (now (c .before .before .before .before .before .before .before .before .before .before .args .bytes))) (c .before .before .before .before .read-bodies .ensures) (c .before .before .end .given .1)))) (c .refusal2 .ensures)
+returns-3 c =
+    let args = c .before .before .before .before .before .before .before .before .before .before .args in
+    let read-footprints = c .before .before .before .before .before .before .before .before .read-footprints in
+    let behind2 = c .before .before .before .before .before .before .behind2 in
+    let read-bodies = c .before .before .before .before .read-bodies in
+    let end₀ = c .before .before .end in
+    subst (λ d. ReadAs d (c .refusal2 .result)) (sym (finish-bodies-bad (args .head) (drop (args .at) (now
+    (args .bytes))) (footprint-rows (args .head .footprints) (read-footprints .result)) (drop (behind2 .given .0 .0)
+    (now (args .bytes))) (told (λ n. ended n (footprint-rows (args .head .footprints) (read-footprints .result)) (now
+    (args .bytes))) (read-footprints .ensures) (behind2 .given .1)) (refusal-number (end₀ .given .0 .0)) (told (λ n.
+    ended n (body-rows (args .head .bodies) (read-bodies .result)) (now (args .bytes))) (read-bodies .ensures)
+    (end₀ .given .1)))) (c .refusal2 .ensures)
 
 returns-4 : tie.Need-returns-4
-returns-4 c = subst (λ d. ReadAs d (c .finished .result)) (sym (finish-whole (c .before .before .before .before .before .before .before .before .before .before .before .before .args .head) (drop (c .before .before .before .before .before .before .before .before .before .before .before .before .args .at) (now (c .before .before .before .before .before .before .before .before .before .before .before .before .args .bytes))) (footprint-rows (c .before .before .before .before .before .before .before .before .before .before .before .before .args .head .footprints) (c .before .before .before .before .before .before .before .before .before .before .read-footprints .result)) (drop (c .before .before .before .before .before .before .before .before .behind2 .given .0 .0) (now (c .before .before .before .before .before .before .before .before .before .before .before .before .args .bytes))) (told (λ n. ended n (footprint-rows (c .before .before .before .before .before .before .before .before .before .before .before .before .args .head .footprints) (c .before .before .before .before .before .before .before .before .before .before .read-footprints .result)) (now (c .before .before .before .before .before .before .before .before .before .before .before .before .args .bytes))) (c .before .before .before .before .before .before .before .before .before .before .read-footprints .ensures) (c .before .before .before .before .before .before .before .before .behind2 .given .1)) (body-rows (c .before .before .before .before .before .before .before .before .before .before .before .before .args .head .bodies) (c .before .before .before .before .before .before .read-bodies .result)) (drop (c .before .before .before .before .end2 .given .0 .0) (now (c .before .before .before .before .before .before .before .before .before .before .before .before .args .bytes))) (told (λ n. ended n (body-rows (c .before .before .before .before .before .before .before .before .before .before .before .before .args .head .bodies) (c .before .before .before .before .before .before .read-bodies .result)) (now (c .before .before .before .before .before .before .before .before .before .before .before .before .args .bytes))) (c .before .before .before .before .before .before .read-bodies .ensures) (c .before .before .before .before .end2 .given .1)) (omega (arith, c .before .before .left .ensures, c .before .if1 .left, length-drop (c .before .before .before .before .end2 .given .0 .0) (now (c .before .before .before .before .before .before .before .before .before .before .before .before .args .bytes)))))) (c .finished .ensures)
+returns-4 c =
+    let args = c .before .before .before .before .before .before .before .before .before .before .before .before .args in
+    let read-footprints = c .before .before .before .before .before .before .before .before .before .before .read-footprints in
+    let behind2 = c .before .before .before .before .before .before .before .before .behind2 in
+    let read-bodies = c .before .before .before .before .before .before .read-bodies in
+    let end2 = c .before .before .before .before .end2 in
+    subst (λ d. ReadAs d (c .finished .result)) (sym (finish-whole (args .head) (drop (args .at) (now (args .bytes)))
+    (footprint-rows (args .head .footprints) (read-footprints .result)) (drop (behind2 .given .0 .0) (now
+    (args .bytes))) (told (λ n. ended n (footprint-rows (args .head .footprints) (read-footprints .result)) (now
+    (args .bytes))) (read-footprints .ensures) (behind2 .given .1)) (body-rows (args .head .bodies)
+    (read-bodies .result)) (drop (end2 .given .0 .0) (now (args .bytes))) (told (λ n. ended n (body-rows
+    (args .head .bodies) (read-bodies .result)) (now (args .bytes))) (read-bodies .ensures) (end2 .given .1)) (omega (
+      arith,
+      c .before .before .left .ensures,
+      c .before .if1 .left,
+      length-drop (end2 .given .0 .0) (now
+          (args .bytes)),
+    )))) (c .finished .ensures)
 
 pub read-records-spec : {M : Type 1} → statement M
 read-records-spec =

@@ -12,10 +12,6 @@ use denote.Ref.{now}
 use borrow.Author.Needs.{needs}
 use Rattle.tasklist.proofs.reader.take_head.Statement.{statement}
 use Rattle.tasklist.proofs.reader.take_head.Tie as tie
-use Rattle.tasklist.proofs.reader.take_head.Reads as reads
-use Rattle.tasklist.proofs.reader.take_head.Lts as lts
-use Rattle.tasklist.proofs.fields.take_tag.Reads as take-tag-reads
-use Rattle.tasklist.proofs.reader.head_numbers.Reads as head-numbers-reads
 
 take-tag-requires : tie.Need-take-tag-requires
 take-tag-requires c κs = search needs
@@ -31,11 +27,21 @@ head-numbers-requires c κs = search needs
 
 returns : tie.Need-returns
 unfolding head
-returns c = let a = c .before .before .before .before .before .args in let e : tag 0x48 (now (a .bytes)) ≡ bad (refusal-number (c .before .k .given .0 .0)) = told (λ r. tag-taken r (now (a .bytes))) (c .before .before .before .take-tag .ensures) (c .before .k .given .1) in rw e refl
+returns c =
+    let a = c .before .before .before .before .before .args in
+    let e : tag 0x48 (now (a .bytes)) ≡ bad (refusal-number (c .before .k .given .0 .0)) = told (λ r. tag-taken r (now
+    (a .bytes))) (c .before .before .before .take-tag .ensures) (c .before .k .given .1) in
+    rw e refl
 
 returns-2 : tie.Need-returns-2
 unfolding head
-returns-2 c = let a = c .before .before .before .before .before .before .args in let e : tag 0x48 (now (a .bytes)) ≡ took tt (drop (c .before .before .p .given .0 .0) (now (a .bytes))) = told (λ r. tag-taken r (now (a .bytes))) (c .before .before .before .before .take-tag .ensures) (c .before .before .p .given .1) in c .head-numbers .ensures ∙ (rw e refl)
+returns-2 c =
+    let a = c .before .before .before .before .before .before .args in
+    let take-tag = c .before .before .before .before .take-tag in
+    let p = c .before .before .p in
+    let e : tag 0x48 (now (a .bytes)) ≡ took tt (drop (p .given .0 .0) (now (a .bytes))) = told (λ r. tag-taken r (now
+    (a .bytes))) (take-tag .ensures) (p .given .1) in
+    c .head-numbers .ensures ∙ (rw e refl)
 
 pub take-head-spec : {M : Type 1} → statement M
 take-head-spec =

@@ -14,10 +14,6 @@ use denote.Ref.{now}
 use borrow.Author.Needs.{needs}
 use Rattle.tasklist.proofs.writer.encoded_length.Statement.{statement}
 use Rattle.tasklist.proofs.writer.encoded_length.Tie as tie
-use Rattle.tasklist.proofs.writer.encoded_length.Reads as reads
-use Rattle.tasklist.proofs.writer.encoded_length.Lts as lts
-use Rattle.tasklist.proofs.writer.bodies_length.Reads as bodies-length-reads
-use Rattle.tasklist.proofs.writer.footprints_length.Reads as footprints-length-reads
 
 footprints-length-requires : tie.Need-footprints-length-requires
 footprints-length-requires c κs = search needs
@@ -32,7 +28,13 @@ add-result-2 : tie.Need-add-result-2
 add-result-2 c = omega (arith, c .before .footprints-length .ensures, c .bodies-length .ensures)
 
 returns : tie.Need-returns
-returns c = omega (arith, encode-length (list-of (c .before .before .args .tables)), c .before .footprints-length .ensures, c .bodies-length .ensures)
+returns c =
+    omega (
+      arith,
+      encode-length (list-of (c .before .before .args .tables)),
+      c .before .footprints-length .ensures,
+      c .bodies-length .ensures,
+    )
 
 pub encoded-length-spec : {M : Type 1} → statement M
 encoded-length-spec =

@@ -18,18 +18,14 @@ use mathlib.Core.Path.{_≡_, refl, sym, ap, _∙_, subst}
 use denote.Ref.{now}
 use Rattle.tasklist.proofs.writer.put_body.Statement.{statement}
 use Rattle.tasklist.proofs.writer.put_body.Tie as tie
-use Rattle.tasklist.proofs.writer.put_body.Reads as reads
-use Rattle.tasklist.proofs.writer.put_body.Lts as lts
-use Rattle.tasklist.proofs.access.body_size.Reads as body-size-reads
-use Rattle.tasklist.proofs.access.instruction_at.Reads as instruction-at-reads
-use Rattle.tasklist.proofs.writer.put_instruction.Reads as put-instruction-reads
-use Rattle.tasklist.proofs.writer.put_three.Reads as put-three-reads
 
 size-small : (t : Tables) (s : ℕ) → length (body-of (list-of t) s) ≤ 32
 size-small t s = omega (arith, body-most t s)
 
 abbrev Inv-loop : tie.InvT-loop
-Inv-loop tables s out₀ from n at₀ i₀ out at i = (n ≡ length (body-of (list-of tables) s)) × (i ≤ n) × Put instruction-fields (body-of (list-of tables) s) (sets out₀ at₀ (joined instruction-fields (body-of (list-of tables) s))) (at₀ + length (joined instruction-fields (body-of (list-of tables) s))) out at i
+Inv-loop tables s out₀ from n at₀ i₀ out at i =
+    (n ≡ length (body-of (list-of tables) s)) × (i ≤ n) ×
+    Put instruction-fields (body-of (list-of tables) s) (sets out₀ at₀ (joined instruction-fields (body-of (list-of tables) s))) (at₀ + length (joined instruction-fields (body-of (list-of tables) s))) out at i
 
 abbrev μ-loop : tie.MeasureT-loop
 μ-loop tables s out₀ from n at₀ i₀ out at i = n - i
@@ -50,16 +46,52 @@ add-at c = omega (arith, c .before .before .before .before .before .before .pre)
 
 loop-holds : tie.Need-loop-holds Inv-loop μ-loop
 unfolding body-bytes
-loop-holds c = let len : length (c .before .before .put-three .last .0) ≡ length (now (c .before .before .before .before .before .before .args .out)) = ap length (c .before .before .put-three .ensures) ∙ length-sets (now (c .before .before .before .before .before .before .args .out)) (c .before .before .before .before .before .before .args .from) (0x4A ∷ 0x42 ∷ (c .before .before .before .before .body-size .result % 256) ∷ []) in (c .before .before .before .before .body-size .ensures, search needs, put-starts instruction-fields (body-of (list-of (c .before .before .before .before .before .before .args .tables)) (c .before .before .before .before .before .before .args .s)) (c .before .before .put-three .last .0) (c .before .before .before .before .before .before .args .from + 3) (omega (arith, c .before .before .before .before .before .before .pre, len)))
+loop-holds c =
+    let args = c .before .before .before .before .before .before .args in
+    let pre = c .before .before .before .before .before .before .pre in
+    let body-size = c .before .before .before .before .body-size in
+    let put-three = c .before .before .put-three in
+    let len : length (put-three .last .0) ≡ length (now (args .out)) = ap length (put-three .ensures) ∙ length-sets
+    (now (args .out)) (args .from) (0x4A ∷ 0x42 ∷ (body-size .result % 256) ∷ []) in (
+      body-size .ensures,
+      search needs,
+      put-starts instruction-fields (body-of (list-of (args .tables)) (args .s))
+          (put-three .last .0) (args .from + 3) (omega (arith, pre, len)),
+    )
 
 instruction-at-requires : tie.Need-instruction-at-requires Inv-loop μ-loop
 instruction-at-requires c κs = search needs
 
 put-instruction-requires : tie.Need-put-instruction-requires Inv-loop μ-loop
-put-instruction-requires c κs = put-fits instruction-fields (body-of (list-of (c .before .before .before .before .before .before .before .before .before .before .args .tables)) (c .before .before .before .before .before .before .before .before .before .before .args .s)) (sets (c .before .before .before .before .before .before .put-three .last .0) (c .before .before .before .before .before .before .before .before .before .before .args .from + 3) (joined instruction-fields (body-of (list-of (c .before .before .before .before .before .before .before .before .before .before .args .tables)) (c .before .before .before .before .before .before .before .before .before .before .args .s)))) (c .before .before .before .before .before .before .before .before .before .before .args .from + 3 + length (joined instruction-fields (body-of (list-of (c .before .before .before .before .before .before .before .before .before .before .args .tables)) (c .before .before .before .before .before .before .before .before .before .before .args .s)))) (c .before .before .before .loop .out) (c .before .before .before .loop .at) (c .before .before .before .loop .i) blank-instruction 4 (omega (arith, c .before .before .loop-test .taken, c .before .before .before .loop .inv .0)) (instruction-length (getD (body-of (list-of (c .before .before .before .before .before .before .before .before .before .before .args .tables)) (c .before .before .before .before .before .before .before .before .before .before .args .s)) (c .before .before .before .loop .i) blank-instruction)) (c .before .before .before .loop .inv .2)
+put-instruction-requires c κs =
+    let args = c .before .before .before .before .before .before .before .before .before .before .args in
+    let put-three = c .before .before .before .before .before .before .put-three in
+    let loop = c .before .before .before .loop in
+    put-fits instruction-fields (body-of (list-of (args .tables)) (args .s)) (sets (put-three .last .0) (args .from +
+    3) (joined instruction-fields (body-of (list-of (args .tables)) (args .s)))) (args .from + 3 + length (joined
+    instruction-fields (body-of (list-of (args .tables)) (args .s)))) (loop .out) (loop .at) (loop .i)
+    blank-instruction 4 (omega (arith, c .before .before .loop-test .taken, loop .inv .0)) (instruction-length (getD
+    (body-of (list-of (args .tables)) (args .s)) (loop .i) blank-instruction)) (loop .inv .2)
 
 add-at-2 : tie.Need-add-at-2 Inv-loop μ-loop
-add-at-2 c = let len : length (c .before .before .before .before .before .before .before .before .before .put-three .last .0) ≡ length (now (c .before .before .before .before .before .before .before .before .before .before .before .before .before .args .out)) = ap length (c .before .before .before .before .before .before .before .before .before .put-three .ensures) ∙ length-sets (now (c .before .before .before .before .before .before .before .before .before .before .before .before .before .args .out)) (c .before .before .before .before .before .before .before .before .before .before .before .before .before .args .from) (0x4A ∷ 0x42 ∷ (c .before .before .before .before .before .before .before .before .before .before .before .body-size .result % 256) ∷ []) in let long : length (c .before .before .before .before .before .before .loop .out) ≡ length (c .before .before .before .before .before .before .before .before .before .put-three .last .0) = c .before .before .before .before .before .before .loop .inv .2 .long ∙ length-sets (c .before .before .before .before .before .before .before .before .before .put-three .last .0) (c .before .before .before .before .before .before .before .before .before .before .before .before .before .args .from + 3) (joined instruction-fields (body-of (list-of (c .before .before .before .before .before .before .before .before .before .before .before .before .before .args .tables)) (c .before .before .before .before .before .before .before .before .before .before .before .before .before .args .s))) in omega (arith, put-fits instruction-fields (body-of (list-of (c .before .before .before .before .before .before .before .before .before .before .before .before .before .args .tables)) (c .before .before .before .before .before .before .before .before .before .before .before .before .before .args .s)) (sets (c .before .before .before .before .before .before .before .before .before .put-three .last .0) (c .before .before .before .before .before .before .before .before .before .before .before .before .before .args .from + 3) (joined instruction-fields (body-of (list-of (c .before .before .before .before .before .before .before .before .before .before .before .before .before .args .tables)) (c .before .before .before .before .before .before .before .before .before .before .before .before .before .args .s)))) (c .before .before .before .before .before .before .before .before .before .before .before .before .before .args .from + 3 + length (joined instruction-fields (body-of (list-of (c .before .before .before .before .before .before .before .before .before .before .before .before .before .args .tables)) (c .before .before .before .before .before .before .before .before .before .before .before .before .before .args .s)))) (c .before .before .before .before .before .before .loop .out) (c .before .before .before .before .before .before .loop .at) (c .before .before .before .before .before .before .loop .i) blank-instruction 4 (omega (arith, c .before .before .before .before .before .loop-test .taken, c .before .before .before .before .before .before .loop .inv .0)) (instruction-length (getD (body-of (list-of (c .before .before .before .before .before .before .before .before .before .before .before .before .before .args .tables)) (c .before .before .before .before .before .before .before .before .before .before .before .before .before .args .s)) (c .before .before .before .before .before .before .loop .i) blank-instruction)) (c .before .before .before .before .before .before .loop .inv .2))
+add-at-2 c =
+    let args = c .before .before .before .before .before .before .before .before .before .before .before .before .before .args in
+    let body-size = c .before .before .before .before .before .before .before .before .before .before .before .body-size in
+    let put-three = c .before .before .before .before .before .before .before .before .before .put-three in
+    let loop = c .before .before .before .before .before .before .loop in
+    let loop-test = c .before .before .before .before .before .loop-test in
+    let len : length (put-three .last .0) ≡ length (now (args .out)) = ap length (put-three .ensures) ∙ length-sets
+    (now (args .out)) (args .from) (0x4A ∷ 0x42 ∷ (body-size .result % 256) ∷ []) in
+    let long : length (loop .out) ≡ length (put-three .last .0) = loop .inv .2 .long ∙ length-sets
+    (put-three .last .0) (args .from + 3) (joined instruction-fields (body-of (list-of (args .tables)) (args .s))) in
+    omega (
+      arith,
+      put-fits instruction-fields (body-of (list-of (args .tables)) (args .s)) (sets (put-three .last .0)
+          (args .from + 3) (joined instruction-fields (body-of (list-of (args .tables)) (args .s)))) (args .from + 3 +
+          length (joined instruction-fields (body-of (list-of (args .tables)) (args .s)))) (loop .out) (loop .at) (loop .i)
+          blank-instruction 4 (omega (arith, loop-test .taken, loop .inv .0)) (instruction-length (getD (body-of (list-of
+          (args .tables)) (args .s)) (loop .i) blank-instruction)) (loop .inv .2),
+    )
 
 add-i : tie.Need-add-i Inv-loop μ-loop
 add-i c = search needs
@@ -69,14 +101,55 @@ loop-less c = search needs
 
 loop-again : tie.Need-loop-again Inv-loop μ-loop
 unfolding instruction-of
-loop-again c = (c .before .before .before .before .before .before .loop .inv .0, search needs, put-more instruction-fields (body-of (list-of (c .before .before .before .before .before .before .before .before .before .before .before .before .before .args .tables)) (c .before .before .before .before .before .before .before .before .before .before .before .before .before .args .s)) (sets (c .before .before .before .before .before .before .before .before .before .put-three .last .0) (c .before .before .before .before .before .before .before .before .before .before .before .before .before .args .from + 3) (joined instruction-fields (body-of (list-of (c .before .before .before .before .before .before .before .before .before .before .before .before .before .args .tables)) (c .before .before .before .before .before .before .before .before .before .before .before .before .before .args .s)))) (c .before .before .before .before .before .before .before .before .before .before .before .before .before .args .from + 3 + length (joined instruction-fields (body-of (list-of (c .before .before .before .before .before .before .before .before .before .before .before .before .before .args .tables)) (c .before .before .before .before .before .before .before .before .before .before .before .before .before .args .s)))) (c .before .before .before .before .before .before .loop .out) (c .before .before .before .before .before .before .loop .at) (c .before .before .before .before .before .before .loop .i) blank-instruction 4 (instruction-fields (c .before .before .before .instruction-at .result)) (c .before .before .put-instruction .last .0) (omega (arith, c .before .before .before .before .before .loop-test .taken, c .before .before .before .before .before .before .loop .inv .0)) (instruction-length (getD (body-of (list-of (c .before .before .before .before .before .before .before .before .before .before .before .before .before .args .tables)) (c .before .before .before .before .before .before .before .before .before .before .before .before .before .args .s)) (c .before .before .before .before .before .before .loop .i) blank-instruction)) (ap instruction-fields (sym (c .before .before .before .instruction-at .ensures))) (c .before .before .before .before .before .before .loop .inv .2) (c .before .before .put-instruction .ensures))
+loop-again c =
+    let args = c .before .before .before .before .before .before .before .before .before .before .before .before .before .args in
+    let put-three = c .before .before .before .before .before .before .before .before .before .put-three in
+    let loop = c .before .before .before .before .before .before .loop in
+    let loop-test = c .before .before .before .before .before .loop-test in
+    let instruction-at = c .before .before .before .instruction-at in
+    let put-instruction = c .before .before .put-instruction in (
+      loop .inv .0,
+      search needs,
+      put-more instruction-fields (body-of (list-of (args .tables)) (args .s)) (sets
+          (put-three .last .0) (args .from + 3) (joined instruction-fields (body-of (list-of (args .tables)) (args .s))))
+          (args .from + 3 + length (joined instruction-fields (body-of (list-of (args .tables)) (args .s)))) (loop .out)
+          (loop .at) (loop .i) blank-instruction 4 (instruction-fields (instruction-at .result)) (put-instruction .last .0)
+          (omega (arith, loop-test .taken, loop .inv .0)) (instruction-length (getD (body-of (list-of (args .tables))
+          (args .s)) (loop .i) blank-instruction)) (ap instruction-fields (sym (instruction-at .ensures))) (loop .inv .2)
+          (put-instruction .ensures),
+    )
 
 same-length : tie.Need-same-length Inv-loop μ-loop
-same-length c = let len : length (c .before .before .before .before .put-three .last .0) ≡ length (now (c .before .before .before .before .before .before .before .before .args .out)) = ap length (c .before .before .before .before .put-three .ensures) ∙ length-sets (now (c .before .before .before .before .before .before .before .before .args .out)) (c .before .before .before .before .before .before .before .before .args .from) (0x4A ∷ 0x42 ∷ (c .before .before .before .before .before .before .body-size .result % 256) ∷ []) in let long : length (c .before .loop .out) ≡ length (c .before .before .before .before .put-three .last .0) = c .before .loop .inv .2 .long ∙ length-sets (c .before .before .before .before .put-three .last .0) (c .before .before .before .before .before .before .before .before .args .from + 3) (joined instruction-fields (body-of (list-of (c .before .before .before .before .before .before .before .before .args .tables)) (c .before .before .before .before .before .before .before .before .args .s))) in long ∙ len
+same-length c =
+    let args = c .before .before .before .before .before .before .before .before .args in
+    let body-size = c .before .before .before .before .before .before .body-size in
+    let put-three = c .before .before .before .before .put-three in
+    let len : length (put-three .last .0) ≡ length (now (args .out)) = ap length (put-three .ensures) ∙ length-sets
+    (now (args .out)) (args .from) (0x4A ∷ 0x42 ∷ (body-size .result % 256) ∷ []) in
+    let long : length (c .before .loop .out) ≡ length (put-three .last .0) = c .before .loop .inv .2 .long ∙
+    length-sets (put-three .last .0) (args .from + 3) (joined instruction-fields (body-of (list-of (args .tables))
+    (args .s))) in
+    long ∙ len
 
 returns : tie.Need-returns Inv-loop μ-loop
 unfolding body-bytes
-returns c = let done = put-done instruction-fields (body-of (list-of (c .before .before .before .before .before .before .before .before .args .tables)) (c .before .before .before .before .before .before .before .before .args .s)) (sets (c .before .before .before .before .put-three .last .0) (c .before .before .before .before .before .before .before .before .args .from + 3) (joined instruction-fields (body-of (list-of (c .before .before .before .before .before .before .before .before .args .tables)) (c .before .before .before .before .before .before .before .before .args .s)))) (c .before .before .before .before .before .before .before .before .args .from + 3 + length (joined instruction-fields (body-of (list-of (c .before .before .before .before .before .before .before .before .args .tables)) (c .before .before .before .before .before .before .before .before .args .s)))) (c .before .loop .out) (c .before .loop .at) (c .before .loop .i) (omega (arith, c .loop-test .left, c .before .loop .inv .0)) (c .before .loop .inv .2) in (omega (arith, done .0), done .1 ∙ ap (λ (l : List ℕ). sets l (c .before .before .before .before .before .before .before .before .args .from + 3) (joined instruction-fields (body-of (list-of (c .before .before .before .before .before .before .before .before .args .tables)) (c .before .before .before .before .before .before .before .before .args .s)))) (c .before .before .before .before .put-three .ensures) ∙ put-behind 0x4A 0x42 (c .before .before .before .before .before .before .body-size .result % 256) (now (c .before .before .before .before .before .before .before .before .args .out)) (joined instruction-fields (body-of (list-of (c .before .before .before .before .before .before .before .before .args .tables)) (c .before .before .before .before .before .before .before .before .args .s))) (c .before .before .before .before .before .before .before .before .args .from) ∙ ap (λ (n : ℕ). sets (now (c .before .before .before .before .before .before .before .before .args .out)) (c .before .before .before .before .before .before .before .before .args .from) (0x4A ∷ 0x42 ∷ n ∷ joined instruction-fields (body-of (list-of (c .before .before .before .before .before .before .before .before .args .tables)) (c .before .before .before .before .before .before .before .before .args .s)))) (count-byte (c .before .before .before .before .before .before .body-size .result) (length (body-of (list-of (c .before .before .before .before .before .before .before .before .args .tables)) (c .before .before .before .before .before .before .before .before .args .s))) (c .before .before .before .before .before .before .body-size .ensures) (size-small (c .before .before .before .before .before .before .before .before .args .tables) (c .before .before .before .before .before .before .before .before .args .s))))
+returns c =
+    let args = c .before .before .before .before .before .before .before .before .args in
+    let body-size = c .before .before .before .before .before .before .body-size in
+    let put-three = c .before .before .before .before .put-three in
+    let loop = c .before .loop in
+    let done = put-done instruction-fields (body-of (list-of (args .tables)) (args .s)) (sets (put-three .last .0)
+    (args .from + 3) (joined instruction-fields (body-of (list-of (args .tables)) (args .s)))) (args .from + 3 +
+    length (joined instruction-fields (body-of (list-of (args .tables)) (args .s)))) (loop .out) (loop .at) (loop .i)
+    (omega (arith, c .loop-test .left, loop .inv .0)) (loop .inv .2) in (
+      omega (arith, done .0),
+      done .1 ∙ ap (λ (l : List ℕ). sets l (args .from + 3) (joined instruction-fields (body-of
+          (list-of (args .tables)) (args .s)))) (put-three .ensures) ∙ put-behind 0x4A 0x42 (body-size .result % 256) (now
+          (args .out)) (joined instruction-fields (body-of (list-of (args .tables)) (args .s))) (args .from) ∙ ap (λ (n :
+          ℕ). sets (now (args .out)) (args .from) (0x4A ∷ 0x42 ∷ n ∷ joined instruction-fields (body-of (list-of
+          (args .tables)) (args .s)))) (count-byte (body-size .result) (length (body-of (list-of (args .tables)) (args .s)))
+          (body-size .ensures) (size-small (args .tables) (args .s))),
+    )
 
 pub put-body-spec : {M : Type 1} → statement M
 put-body-spec =

@@ -18,18 +18,14 @@ use mathlib.Core.Path.{_≡_, refl, sym, ap, _∙_, subst}
 use denote.Ref.{now}
 use Rattle.tasklist.proofs.writer.put_footprint.Statement.{statement}
 use Rattle.tasklist.proofs.writer.put_footprint.Tie as tie
-use Rattle.tasklist.proofs.writer.put_footprint.Reads as reads
-use Rattle.tasklist.proofs.writer.put_footprint.Lts as lts
-use Rattle.tasklist.proofs.access.footprint_size.Reads as footprint-size-reads
-use Rattle.tasklist.proofs.access.line_at.Reads as line-at-reads
-use Rattle.tasklist.proofs.writer.put_line.Reads as put-line-reads
-use Rattle.tasklist.proofs.writer.put_three.Reads as put-three-reads
 
 size-small : (t : Tables) (s : ℕ) → length (footprint-of (list-of t) s) ≤ 32
 size-small t s = omega (arith, footprint-most t s)
 
 abbrev Inv-loop : tie.InvT-loop
-Inv-loop tables f out₀ from n at₀ j₀ out at j = (n ≡ length (footprint-of (list-of tables) f)) × (j ≤ n) × Put line-fields (footprint-of (list-of tables) f) (sets out₀ at₀ (joined line-fields (footprint-of (list-of tables) f))) (at₀ + length (joined line-fields (footprint-of (list-of tables) f))) out at j
+Inv-loop tables f out₀ from n at₀ j₀ out at j =
+    (n ≡ length (footprint-of (list-of tables) f)) × (j ≤ n) ×
+    Put line-fields (footprint-of (list-of tables) f) (sets out₀ at₀ (joined line-fields (footprint-of (list-of tables) f))) (at₀ + length (joined line-fields (footprint-of (list-of tables) f))) out at j
 
 abbrev μ-loop : tie.MeasureT-loop
 μ-loop tables f out₀ from n at₀ j₀ out at j = n - j
@@ -50,16 +46,52 @@ add-at c = omega (arith, c .before .before .before .before .before .before .pre)
 
 loop-holds : tie.Need-loop-holds Inv-loop μ-loop
 unfolding footprint-bytes
-loop-holds c = let len : length (c .before .before .put-three .last .0) ≡ length (now (c .before .before .before .before .before .before .args .out)) = ap length (c .before .before .put-three .ensures) ∙ length-sets (now (c .before .before .before .before .before .before .args .out)) (c .before .before .before .before .before .before .args .from) (0x4A ∷ 0x46 ∷ (c .before .before .before .before .footprint-size .result % 256) ∷ []) in (c .before .before .before .before .footprint-size .ensures, search needs, put-starts line-fields (footprint-of (list-of (c .before .before .before .before .before .before .args .tables)) (c .before .before .before .before .before .before .args .f)) (c .before .before .put-three .last .0) (c .before .before .before .before .before .before .args .from + 3) (omega (arith, c .before .before .before .before .before .before .pre, len)))
+loop-holds c =
+    let args = c .before .before .before .before .before .before .args in
+    let pre = c .before .before .before .before .before .before .pre in
+    let footprint-size = c .before .before .before .before .footprint-size in
+    let put-three = c .before .before .put-three in
+    let len : length (put-three .last .0) ≡ length (now (args .out)) = ap length (put-three .ensures) ∙ length-sets
+    (now (args .out)) (args .from) (0x4A ∷ 0x46 ∷ (footprint-size .result % 256) ∷ []) in (
+      footprint-size .ensures,
+      search needs,
+      put-starts line-fields (footprint-of (list-of (args .tables)) (args .f))
+          (put-three .last .0) (args .from + 3) (omega (arith, pre, len)),
+    )
 
 line-at-requires : tie.Need-line-at-requires Inv-loop μ-loop
 line-at-requires c κs = search needs
 
 put-line-requires : tie.Need-put-line-requires Inv-loop μ-loop
-put-line-requires c κs = put-fits line-fields (footprint-of (list-of (c .before .before .before .before .before .before .before .before .before .before .args .tables)) (c .before .before .before .before .before .before .before .before .before .before .args .f)) (sets (c .before .before .before .before .before .before .put-three .last .0) (c .before .before .before .before .before .before .before .before .before .before .args .from + 3) (joined line-fields (footprint-of (list-of (c .before .before .before .before .before .before .before .before .before .before .args .tables)) (c .before .before .before .before .before .before .before .before .before .before .args .f)))) (c .before .before .before .before .before .before .before .before .before .before .args .from + 3 + length (joined line-fields (footprint-of (list-of (c .before .before .before .before .before .before .before .before .before .before .args .tables)) (c .before .before .before .before .before .before .before .before .before .before .args .f)))) (c .before .before .before .loop .out) (c .before .before .before .loop .at) (c .before .before .before .loop .j) blank-line 2 (omega (arith, c .before .before .loop-test .taken, c .before .before .before .loop .inv .0)) (line-length (getD (footprint-of (list-of (c .before .before .before .before .before .before .before .before .before .before .args .tables)) (c .before .before .before .before .before .before .before .before .before .before .args .f)) (c .before .before .before .loop .j) blank-line)) (c .before .before .before .loop .inv .2)
+put-line-requires c κs =
+    let args = c .before .before .before .before .before .before .before .before .before .before .args in
+    let put-three = c .before .before .before .before .before .before .put-three in
+    let loop = c .before .before .before .loop in
+    put-fits line-fields (footprint-of (list-of (args .tables)) (args .f)) (sets (put-three .last .0) (args .from + 3)
+    (joined line-fields (footprint-of (list-of (args .tables)) (args .f)))) (args .from + 3 + length (joined
+    line-fields (footprint-of (list-of (args .tables)) (args .f)))) (loop .out) (loop .at) (loop .j) blank-line 2
+    (omega (arith, c .before .before .loop-test .taken, loop .inv .0)) (line-length (getD (footprint-of (list-of
+    (args .tables)) (args .f)) (loop .j) blank-line)) (loop .inv .2)
 
 add-at-2 : tie.Need-add-at-2 Inv-loop μ-loop
-add-at-2 c = let len : length (c .before .before .before .before .before .before .before .before .before .put-three .last .0) ≡ length (now (c .before .before .before .before .before .before .before .before .before .before .before .before .before .args .out)) = ap length (c .before .before .before .before .before .before .before .before .before .put-three .ensures) ∙ length-sets (now (c .before .before .before .before .before .before .before .before .before .before .before .before .before .args .out)) (c .before .before .before .before .before .before .before .before .before .before .before .before .before .args .from) (0x4A ∷ 0x46 ∷ (c .before .before .before .before .before .before .before .before .before .before .before .footprint-size .result % 256) ∷ []) in let long : length (c .before .before .before .before .before .before .loop .out) ≡ length (c .before .before .before .before .before .before .before .before .before .put-three .last .0) = c .before .before .before .before .before .before .loop .inv .2 .long ∙ length-sets (c .before .before .before .before .before .before .before .before .before .put-three .last .0) (c .before .before .before .before .before .before .before .before .before .before .before .before .before .args .from + 3) (joined line-fields (footprint-of (list-of (c .before .before .before .before .before .before .before .before .before .before .before .before .before .args .tables)) (c .before .before .before .before .before .before .before .before .before .before .before .before .before .args .f))) in omega (arith, put-fits line-fields (footprint-of (list-of (c .before .before .before .before .before .before .before .before .before .before .before .before .before .args .tables)) (c .before .before .before .before .before .before .before .before .before .before .before .before .before .args .f)) (sets (c .before .before .before .before .before .before .before .before .before .put-three .last .0) (c .before .before .before .before .before .before .before .before .before .before .before .before .before .args .from + 3) (joined line-fields (footprint-of (list-of (c .before .before .before .before .before .before .before .before .before .before .before .before .before .args .tables)) (c .before .before .before .before .before .before .before .before .before .before .before .before .before .args .f)))) (c .before .before .before .before .before .before .before .before .before .before .before .before .before .args .from + 3 + length (joined line-fields (footprint-of (list-of (c .before .before .before .before .before .before .before .before .before .before .before .before .before .args .tables)) (c .before .before .before .before .before .before .before .before .before .before .before .before .before .args .f)))) (c .before .before .before .before .before .before .loop .out) (c .before .before .before .before .before .before .loop .at) (c .before .before .before .before .before .before .loop .j) blank-line 2 (omega (arith, c .before .before .before .before .before .loop-test .taken, c .before .before .before .before .before .before .loop .inv .0)) (line-length (getD (footprint-of (list-of (c .before .before .before .before .before .before .before .before .before .before .before .before .before .args .tables)) (c .before .before .before .before .before .before .before .before .before .before .before .before .before .args .f)) (c .before .before .before .before .before .before .loop .j) blank-line)) (c .before .before .before .before .before .before .loop .inv .2))
+add-at-2 c =
+    let args = c .before .before .before .before .before .before .before .before .before .before .before .before .before .args in
+    let footprint-size = c .before .before .before .before .before .before .before .before .before .before .before .footprint-size in
+    let put-three = c .before .before .before .before .before .before .before .before .before .put-three in
+    let loop = c .before .before .before .before .before .before .loop in
+    let loop-test = c .before .before .before .before .before .loop-test in
+    let len : length (put-three .last .0) ≡ length (now (args .out)) = ap length (put-three .ensures) ∙ length-sets
+    (now (args .out)) (args .from) (0x4A ∷ 0x46 ∷ (footprint-size .result % 256) ∷ []) in
+    let long : length (loop .out) ≡ length (put-three .last .0) = loop .inv .2 .long ∙ length-sets
+    (put-three .last .0) (args .from + 3) (joined line-fields (footprint-of (list-of (args .tables)) (args .f))) in
+    omega (
+      arith,
+      put-fits line-fields (footprint-of (list-of (args .tables)) (args .f)) (sets (put-three .last .0)
+          (args .from + 3) (joined line-fields (footprint-of (list-of (args .tables)) (args .f)))) (args .from + 3 + length
+          (joined line-fields (footprint-of (list-of (args .tables)) (args .f)))) (loop .out) (loop .at) (loop .j)
+          blank-line 2 (omega (arith, loop-test .taken, loop .inv .0)) (line-length (getD (footprint-of (list-of
+          (args .tables)) (args .f)) (loop .j) blank-line)) (loop .inv .2),
+    )
 
 add-j : tie.Need-add-j Inv-loop μ-loop
 add-j c = search needs
@@ -68,14 +100,57 @@ loop-less : tie.Need-loop-less Inv-loop μ-loop
 loop-less c = search needs
 
 loop-again : tie.Need-loop-again Inv-loop μ-loop
-loop-again c = (c .before .before .before .before .before .before .loop .inv .0, search needs, put-more line-fields (footprint-of (list-of (c .before .before .before .before .before .before .before .before .before .before .before .before .before .args .tables)) (c .before .before .before .before .before .before .before .before .before .before .before .before .before .args .f)) (sets (c .before .before .before .before .before .before .before .before .before .put-three .last .0) (c .before .before .before .before .before .before .before .before .before .before .before .before .before .args .from + 3) (joined line-fields (footprint-of (list-of (c .before .before .before .before .before .before .before .before .before .before .before .before .before .args .tables)) (c .before .before .before .before .before .before .before .before .before .before .before .before .before .args .f)))) (c .before .before .before .before .before .before .before .before .before .before .before .before .before .args .from + 3 + length (joined line-fields (footprint-of (list-of (c .before .before .before .before .before .before .before .before .before .before .before .before .before .args .tables)) (c .before .before .before .before .before .before .before .before .before .before .before .before .before .args .f)))) (c .before .before .before .before .before .before .loop .out) (c .before .before .before .before .before .before .loop .at) (c .before .before .before .before .before .before .loop .j) blank-line 2 (line-fields (c .before .before .before .line-at .result)) (c .before .before .put-line .last .0) (omega (arith, c .before .before .before .before .before .loop-test .taken, c .before .before .before .before .before .before .loop .inv .0)) (line-length (getD (footprint-of (list-of (c .before .before .before .before .before .before .before .before .before .before .before .before .before .args .tables)) (c .before .before .before .before .before .before .before .before .before .before .before .before .before .args .f)) (c .before .before .before .before .before .before .loop .j) blank-line)) (ap line-fields (sym (c .before .before .before .line-at .ensures))) (c .before .before .before .before .before .before .loop .inv .2) (c .before .before .put-line .ensures))
+loop-again c =
+    let args = c .before .before .before .before .before .before .before .before .before .before .before .before .before .args in
+    let put-three = c .before .before .before .before .before .before .before .before .before .put-three in
+    let loop = c .before .before .before .before .before .before .loop in
+    let loop-test = c .before .before .before .before .before .loop-test in
+    let line-at = c .before .before .before .line-at in
+    let put-line = c .before .before .put-line in (
+      loop .inv .0,
+      search needs,
+      put-more line-fields (footprint-of (list-of (args .tables)) (args .f)) (sets
+          (put-three .last .0) (args .from + 3) (joined line-fields (footprint-of (list-of (args .tables)) (args .f))))
+          (args .from + 3 + length (joined line-fields (footprint-of (list-of (args .tables)) (args .f)))) (loop .out)
+          (loop .at) (loop .j) blank-line 2 (line-fields (line-at .result)) (put-line .last .0) (omega (
+            arith,
+            loop-test .taken,
+            loop .inv .0,
+          )) (line-length (getD (footprint-of (list-of (args .tables)) (args .f)) (loop .j)
+          blank-line)) (ap line-fields (sym (line-at .ensures))) (loop .inv .2) (put-line .ensures),
+    )
 
 same-length : tie.Need-same-length Inv-loop μ-loop
-same-length c = let len : length (c .before .before .before .before .put-three .last .0) ≡ length (now (c .before .before .before .before .before .before .before .before .args .out)) = ap length (c .before .before .before .before .put-three .ensures) ∙ length-sets (now (c .before .before .before .before .before .before .before .before .args .out)) (c .before .before .before .before .before .before .before .before .args .from) (0x4A ∷ 0x46 ∷ (c .before .before .before .before .before .before .footprint-size .result % 256) ∷ []) in let long : length (c .before .loop .out) ≡ length (c .before .before .before .before .put-three .last .0) = c .before .loop .inv .2 .long ∙ length-sets (c .before .before .before .before .put-three .last .0) (c .before .before .before .before .before .before .before .before .args .from + 3) (joined line-fields (footprint-of (list-of (c .before .before .before .before .before .before .before .before .args .tables)) (c .before .before .before .before .before .before .before .before .args .f))) in long ∙ len
+same-length c =
+    let args = c .before .before .before .before .before .before .before .before .args in
+    let footprint-size = c .before .before .before .before .before .before .footprint-size in
+    let put-three = c .before .before .before .before .put-three in
+    let len : length (put-three .last .0) ≡ length (now (args .out)) = ap length (put-three .ensures) ∙ length-sets
+    (now (args .out)) (args .from) (0x4A ∷ 0x46 ∷ (footprint-size .result % 256) ∷ []) in
+    let long : length (c .before .loop .out) ≡ length (put-three .last .0) = c .before .loop .inv .2 .long ∙
+    length-sets (put-three .last .0) (args .from + 3) (joined line-fields (footprint-of (list-of (args .tables))
+    (args .f))) in
+    long ∙ len
 
 returns : tie.Need-returns Inv-loop μ-loop
 unfolding footprint-bytes
-returns c = let done = put-done line-fields (footprint-of (list-of (c .before .before .before .before .before .before .before .before .args .tables)) (c .before .before .before .before .before .before .before .before .args .f)) (sets (c .before .before .before .before .put-three .last .0) (c .before .before .before .before .before .before .before .before .args .from + 3) (joined line-fields (footprint-of (list-of (c .before .before .before .before .before .before .before .before .args .tables)) (c .before .before .before .before .before .before .before .before .args .f)))) (c .before .before .before .before .before .before .before .before .args .from + 3 + length (joined line-fields (footprint-of (list-of (c .before .before .before .before .before .before .before .before .args .tables)) (c .before .before .before .before .before .before .before .before .args .f)))) (c .before .loop .out) (c .before .loop .at) (c .before .loop .j) (omega (arith, c .loop-test .left, c .before .loop .inv .0)) (c .before .loop .inv .2) in (omega (arith, done .0), done .1 ∙ ap (λ (l : List ℕ). sets l (c .before .before .before .before .before .before .before .before .args .from + 3) (joined line-fields (footprint-of (list-of (c .before .before .before .before .before .before .before .before .args .tables)) (c .before .before .before .before .before .before .before .before .args .f)))) (c .before .before .before .before .put-three .ensures) ∙ put-behind 0x4A 0x46 (c .before .before .before .before .before .before .footprint-size .result % 256) (now (c .before .before .before .before .before .before .before .before .args .out)) (joined line-fields (footprint-of (list-of (c .before .before .before .before .before .before .before .before .args .tables)) (c .before .before .before .before .before .before .before .before .args .f))) (c .before .before .before .before .before .before .before .before .args .from) ∙ ap (λ (n : ℕ). sets (now (c .before .before .before .before .before .before .before .before .args .out)) (c .before .before .before .before .before .before .before .before .args .from) (0x4A ∷ 0x46 ∷ n ∷ joined line-fields (footprint-of (list-of (c .before .before .before .before .before .before .before .before .args .tables)) (c .before .before .before .before .before .before .before .before .args .f)))) (count-byte (c .before .before .before .before .before .before .footprint-size .result) (length (footprint-of (list-of (c .before .before .before .before .before .before .before .before .args .tables)) (c .before .before .before .before .before .before .before .before .args .f))) (c .before .before .before .before .before .before .footprint-size .ensures) (size-small (c .before .before .before .before .before .before .before .before .args .tables) (c .before .before .before .before .before .before .before .before .args .f))))
+returns c =
+    let args = c .before .before .before .before .before .before .before .before .args in
+    let footprint-size = c .before .before .before .before .before .before .footprint-size in
+    let put-three = c .before .before .before .before .put-three in
+    let loop = c .before .loop in
+    let done = put-done line-fields (footprint-of (list-of (args .tables)) (args .f)) (sets (put-three .last .0)
+    (args .from + 3) (joined line-fields (footprint-of (list-of (args .tables)) (args .f)))) (args .from + 3 + length
+    (joined line-fields (footprint-of (list-of (args .tables)) (args .f)))) (loop .out) (loop .at) (loop .j) (omega
+    (arith, c .loop-test .left, loop .inv .0)) (loop .inv .2) in (
+      omega (arith, done .0),
+      done .1 ∙ ap (λ (l : List ℕ). sets l (args .from + 3) (joined line-fields (footprint-of
+          (list-of (args .tables)) (args .f)))) (put-three .ensures) ∙ put-behind 0x4A 0x46 (footprint-size .result % 256)
+          (now (args .out)) (joined line-fields (footprint-of (list-of (args .tables)) (args .f))) (args .from) ∙ ap (λ (n :
+          ℕ). sets (now (args .out)) (args .from) (0x4A ∷ 0x46 ∷ n ∷ joined line-fields (footprint-of (list-of
+          (args .tables)) (args .f)))) (count-byte (footprint-size .result) (length (footprint-of (list-of (args .tables))
+          (args .f))) (footprint-size .ensures) (size-small (args .tables) (args .f))),
+    )
 
 pub put-footprint-spec : {M : Type 1} → statement M
 put-footprint-spec =

@@ -15,13 +15,11 @@ use mathlib.Core.Path.{_≡_, refl, sym, ap, _∙_, subst}
 use denote.Ref.{now}
 use Rattle.tasklist.proofs.writer.put_footprints.Statement.{statement}
 use Rattle.tasklist.proofs.writer.put_footprints.Tie as tie
-use Rattle.tasklist.proofs.writer.put_footprints.Reads as reads
-use Rattle.tasklist.proofs.writer.put_footprints.Lts as lts
-use Rattle.tasklist.proofs.access.footprint_count.Reads as footprint-count-reads
-use Rattle.tasklist.proofs.writer.put_footprint.Reads as put-footprint-reads
 
 abbrev Inv-loop : tie.InvT-loop
-Inv-loop tables out₀ from n at₀ f₀ out at f = (n ≡ length (list-of tables .footprints)) × (f ≤ n) × Put footprint-bytes (list-of tables .footprints) (sets out₀ from (joined footprint-bytes (list-of tables .footprints))) (from + length (joined footprint-bytes (list-of tables .footprints))) out at f
+Inv-loop tables out₀ from n at₀ f₀ out at f =
+    (n ≡ length (list-of tables .footprints)) × (f ≤ n) ×
+    Put footprint-bytes (list-of tables .footprints) (sets out₀ from (joined footprint-bytes (list-of tables .footprints))) (from + length (joined footprint-bytes (list-of tables .footprints))) out at f
 
 abbrev μ-loop : tie.MeasureT-loop
 μ-loop tables out₀ from n at₀ f₀ out at f = n - f
@@ -30,11 +28,24 @@ footprint-count-requires : tie.Need-footprint-count-requires Inv-loop μ-loop
 footprint-count-requires c κs = search needs
 
 loop-holds : tie.Need-loop-holds Inv-loop μ-loop
-loop-holds c = (c .footprint-count .ensures, search needs, put-starts footprint-bytes (list-of (c .before .before .args .tables) .footprints) (now (c .before .before .args .out)) (c .before .before .args .from) (c .before .before .pre))
+loop-holds c =
+    let args = c .before .before .args in (
+      c .footprint-count .ensures,
+      search needs,
+      put-starts footprint-bytes (list-of (args .tables) .footprints) (now
+          (args .out)) (args .from) (c .before .before .pre),
+    )
 
 put-footprint-requires : tie.Need-put-footprint-requires Inv-loop μ-loop
 unfolding footprint-of
-put-footprint-requires c κs = put-fits footprint-bytes (list-of (c .before .before .before .before .before .args .tables) .footprints) (sets (now (c .before .before .before .before .before .args .out)) (c .before .before .before .before .before .args .from) (joined footprint-bytes (list-of (c .before .before .before .before .before .args .tables) .footprints))) (c .before .before .before .before .before .args .from + length (joined footprint-bytes (list-of (c .before .before .before .before .before .args .tables) .footprints))) (c .before .before .loop .out) (c .before .before .loop .at) (c .before .before .loop .f) [] (length (footprint-bytes (getD (list-of (c .before .before .before .before .before .args .tables) .footprints) (c .before .before .loop .f) []))) (omega (arith, c .before .loop-test .taken, c .before .before .loop .inv .0)) refl (c .before .before .loop .inv .2)
+put-footprint-requires c κs =
+    let args = c .before .before .before .before .before .args in
+    let loop = c .before .before .loop in
+    put-fits footprint-bytes (list-of (args .tables) .footprints) (sets (now (args .out)) (args .from) (joined
+    footprint-bytes (list-of (args .tables) .footprints))) (args .from + length (joined footprint-bytes (list-of
+    (args .tables) .footprints))) (loop .out) (loop .at) (loop .f) [] (length (footprint-bytes (getD (list-of
+    (args .tables) .footprints) (loop .f) []))) (omega (arith, c .before .loop-test .taken, loop .inv .0)) refl
+    (loop .inv .2)
 
 add-f : tie.Need-add-f Inv-loop μ-loop
 add-f c = search needs
@@ -44,13 +55,41 @@ loop-less c = search needs
 
 loop-again : tie.Need-loop-again Inv-loop μ-loop
 unfolding footprint-of
-loop-again c = (c .before .before .before .before .before .loop .inv .0, search needs, subst (λ (a : ℕ). Put footprint-bytes (list-of (c .before .before .before .before .before .before .before .before .args .tables) .footprints) (sets (now (c .before .before .before .before .before .before .before .before .args .out)) (c .before .before .before .before .before .before .before .before .args .from) (joined footprint-bytes (list-of (c .before .before .before .before .before .before .before .before .args .tables) .footprints))) (c .before .before .before .before .before .before .before .before .args .from + length (joined footprint-bytes (list-of (c .before .before .before .before .before .before .before .before .args .tables) .footprints))) (c .before .before .put-footprint .last .1 .1 .0) a (c .before .before .before .before .before .loop .f + 1)) (sym (c .before .before .put-footprint .ensures .0)) (put-more footprint-bytes (list-of (c .before .before .before .before .before .before .before .before .args .tables) .footprints) (sets (now (c .before .before .before .before .before .before .before .before .args .out)) (c .before .before .before .before .before .before .before .before .args .from) (joined footprint-bytes (list-of (c .before .before .before .before .before .before .before .before .args .tables) .footprints))) (c .before .before .before .before .before .before .before .before .args .from + length (joined footprint-bytes (list-of (c .before .before .before .before .before .before .before .before .args .tables) .footprints))) (c .before .before .before .before .before .loop .out) (c .before .before .before .before .before .loop .at) (c .before .before .before .before .before .loop .f) [] (length (footprint-bytes (getD (list-of (c .before .before .before .before .before .before .before .before .args .tables) .footprints) (c .before .before .before .before .before .loop .f) []))) (footprint-bytes (getD (list-of (c .before .before .before .before .before .before .before .before .args .tables) .footprints) (c .before .before .before .before .before .loop .f) [])) (c .before .before .put-footprint .last .1 .1 .0) (omega (arith, c .before .before .before .before .loop-test .taken, c .before .before .before .before .before .loop .inv .0)) refl refl (c .before .before .before .before .before .loop .inv .2) (c .before .before .put-footprint .ensures .1)))
+loop-again c =
+    let args = c .before .before .before .before .before .before .before .before .args in
+    let loop = c .before .before .before .before .before .loop in
+    let loop-test = c .before .before .before .before .loop-test in
+    let put-footprint = c .before .before .put-footprint in (
+      loop .inv .0,
+      search needs,
+      subst (λ (a : ℕ). Put footprint-bytes (list-of (args .tables) .footprints) (sets (now
+          (args .out)) (args .from) (joined footprint-bytes (list-of (args .tables) .footprints))) (args .from + length
+          (joined footprint-bytes (list-of (args .tables) .footprints))) (put-footprint .last .1 .1 .0) a (loop .f + 1))
+          (sym (put-footprint .ensures .0)) (put-more footprint-bytes (list-of (args .tables) .footprints) (sets (now
+          (args .out)) (args .from) (joined footprint-bytes (list-of (args .tables) .footprints))) (args .from + length
+          (joined footprint-bytes (list-of (args .tables) .footprints))) (loop .out) (loop .at) (loop .f) [] (length
+          (footprint-bytes (getD (list-of (args .tables) .footprints) (loop .f) []))) (footprint-bytes (getD (list-of
+          (args .tables) .footprints) (loop .f) [])) (put-footprint .last .1 .1 .0) (omega (
+            arith,
+            loop-test .taken,
+            loop .inv .0,
+          )) refl refl (loop .inv .2) (put-footprint .ensures .1)),
+    )
 
 same-length : tie.Need-same-length Inv-loop μ-loop
-same-length c = c .before .loop .inv .2 .long ∙ length-sets (now (c .before .before .before .before .args .out)) (c .before .before .before .before .args .from) (joined footprint-bytes (list-of (c .before .before .before .before .args .tables) .footprints))
+same-length c =
+    let args = c .before .before .before .before .args in
+    c .before .loop .inv .2 .long ∙ length-sets (now (args .out)) (args .from) (joined footprint-bytes (list-of
+    (args .tables) .footprints))
 
 returns : tie.Need-returns Inv-loop μ-loop
-returns c = put-done footprint-bytes (list-of (c .before .before .before .before .args .tables) .footprints) (sets (now (c .before .before .before .before .args .out)) (c .before .before .before .before .args .from) (joined footprint-bytes (list-of (c .before .before .before .before .args .tables) .footprints))) (c .before .before .before .before .args .from + length (joined footprint-bytes (list-of (c .before .before .before .before .args .tables) .footprints))) (c .before .loop .out) (c .before .loop .at) (c .before .loop .f) (omega (arith, c .loop-test .left, c .before .loop .inv .0)) (c .before .loop .inv .2)
+returns c =
+    let args = c .before .before .before .before .args in
+    let loop = c .before .loop in
+    put-done footprint-bytes (list-of (args .tables) .footprints) (sets (now (args .out)) (args .from) (joined
+    footprint-bytes (list-of (args .tables) .footprints))) (args .from + length (joined footprint-bytes (list-of
+    (args .tables) .footprints))) (loop .out) (loop .at) (loop .f) (omega (arith, c .loop-test .left, loop .inv .0))
+    (loop .inv .2)
 
 pub put-footprints-spec : {M : Type 1} → statement M
 put-footprints-spec =

@@ -11,8 +11,6 @@ use denote.Ref.{now}
 use borrow.Author.Needs.{needs}
 use Rattle.tasklist.proofs.writer.put_four.Statement.{statement}
 use Rattle.tasklist.proofs.writer.put_four.Tie as tie
-use Rattle.tasklist.proofs.writer.put_four.Reads as reads
-use Rattle.tasklist.proofs.writer.put_four.Lts as lts
 
 slice-write-out : tie.Need-slice-write-out
 slice-write-out c = search needs

@@ -15,11 +15,6 @@ use denote.Ref.{now}
 use borrow.Author.Needs.{needs}
 use Rattle.tasklist.proofs.writer.put_head.Statement.{statement}
 use Rattle.tasklist.proofs.writer.put_head.Tie as tie
-use Rattle.tasklist.proofs.writer.put_head.Reads as reads
-use Rattle.tasklist.proofs.writer.put_head.Lts as lts
-use Rattle.tasklist.proofs.access.body_count.Reads as body-count-reads
-use Rattle.tasklist.proofs.access.footprint_count.Reads as footprint-count-reads
-use Rattle.tasklist.proofs.writer.put_three.Reads as put-three-reads
 
 footprint-count-requires : tie.Need-footprint-count-requires
 footprint-count-requires c κs = search needs
@@ -34,20 +29,46 @@ cast-out : tie.Need-cast-out
 cast-out c = omega arith
 
 slice-write-out : tie.Need-slice-write-out
-slice-write-out c = let len : length (c .before .before .put-three .last .0) ≡ length (now (c .before .before .before .before .before .before .before .args .out)) = ap length (c .before .before .put-three .ensures) ∙ length-sets (now (c .before .before .before .before .before .before .before .args .out)) 0 (0x4A ∷ 0x48 ∷ (c .before .before .before .before .before .before .before .args .tables .locations) ∷ []) in omega (arith, c .before .before .before .before .before .before .before .pre)
+slice-write-out c =
+    let args = c .before .before .before .before .before .before .before .args in
+    let pre = c .before .before .before .before .before .before .before .pre in
+    let put-three = c .before .before .put-three in
+    let len : length (put-three .last .0) ≡ length (now (args .out)) = ap length (put-three .ensures) ∙ length-sets
+    (now (args .out)) 0 (0x4A ∷ 0x48 ∷ (args .tables .locations) ∷ []) in
+    omega (arith, pre)
 
 cast-out-2 : tie.Need-cast-out-2
 cast-out-2 c = omega arith
 
 slice-write-out-2 : tie.Need-slice-write-out-2
-slice-write-out-2 c = let len : length (c .before .before .put-three .last .0) ≡ length (now (c .before .before .before .before .before .before .before .args .out)) = ap length (c .before .before .put-three .ensures) ∙ length-sets (now (c .before .before .before .before .before .before .before .args .out)) 0 (0x4A ∷ 0x48 ∷ (c .before .before .before .before .before .before .before .args .tables .locations) ∷ []) in simp length-set (omega (arith, c .before .before .before .before .before .before .before .pre))
+slice-write-out-2 c =
+    let args = c .before .before .before .before .before .before .before .args in
+    let pre = c .before .before .before .before .before .before .before .pre in
+    let put-three = c .before .before .put-three in
+    let len : length (put-three .last .0) ≡ length (now (args .out)) = ap length (put-three .ensures) ∙ length-sets
+    (now (args .out)) 0 (0x4A ∷ 0x48 ∷ (args .tables .locations) ∷ []) in
+    simp length-set (omega (arith, pre))
 
 same-length : tie.Need-same-length
-same-length c = let len : length (c .before .before .put-three .last .0) ≡ length (now (c .before .before .before .before .before .before .before .args .out)) = ap length (c .before .before .put-three .ensures) ∙ length-sets (now (c .before .before .before .before .before .before .before .args .out)) 0 (0x4A ∷ 0x48 ∷ (c .before .before .before .before .before .before .before .args .tables .locations) ∷ []) in simp length-set len
+same-length c =
+    let args = c .before .before .before .before .before .before .before .args in
+    let put-three = c .before .before .put-three in
+    let len : length (put-three .last .0) ≡ length (now (args .out)) = ap length (put-three .ensures) ∙ length-sets
+    (now (args .out)) 0 (0x4A ∷ 0x48 ∷ (args .tables .locations) ∷ []) in
+    simp length-set len
 
 returns : tie.Need-returns
 unfolding head-bytes list-of
-returns c = ap (λ (o : List ℕ). set (set o 3 (c .before .before .before .before .before .footprint-count .result % 256)) 4 (c .before .before .before .before .body-count .result % 256)) (c .before .before .put-three .ensures) ∙ ap₂ (λ (m n : ℕ). sets (now (c .before .before .before .before .before .before .before .args .out)) 0 (0x4A ∷ 0x48 ∷ (c .before .before .before .before .before .before .before .args .tables .locations) ∷ m ∷ n ∷ [])) (count-byte (c .before .before .before .before .before .footprint-count .result) (length ((list-of (c .before .before .before .before .before .before .before .args .tables)) .footprints)) (c .before .before .before .before .before .footprint-count .ensures) (footprints-few (c .before .before .before .before .before .before .before .args .tables) (search needs))) (count-byte (c .before .before .before .before .body-count .result) (length ((list-of (c .before .before .before .before .before .before .before .args .tables)) .bodies)) (c .before .before .before .before .body-count .ensures) (bodies-few (c .before .before .before .before .before .before .before .args .tables) (search needs)))
+returns c =
+    let args = c .before .before .before .before .before .before .before .args in
+    let footprint-count = c .before .before .before .before .before .footprint-count in
+    let body-count = c .before .before .before .before .body-count in
+    ap (λ (o : List ℕ). set (set o 3 (footprint-count .result % 256)) 4 (body-count .result % 256))
+    (c .before .before .put-three .ensures) ∙ ap₂ (λ (m n : ℕ). sets (now (args .out)) 0 (0x4A ∷ 0x48 ∷
+    (args .tables .locations) ∷ m ∷ n ∷ [])) (count-byte (footprint-count .result) (length ((list-of
+    (args .tables)) .footprints)) (footprint-count .ensures) (footprints-few (args .tables) (search needs)))
+    (count-byte (body-count .result) (length ((list-of (args .tables)) .bodies)) (body-count .ensures) (bodies-few
+    (args .tables) (search needs)))
 
 pub put-head-spec : {M : Type 1} → statement M
 put-head-spec =

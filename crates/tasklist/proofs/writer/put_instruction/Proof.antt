@@ -12,9 +12,6 @@ use denote.Ref.{now}
 use borrow.Author.Needs.{needs}
 use Rattle.tasklist.proofs.writer.put_instruction.Statement.{statement}
 use Rattle.tasklist.proofs.writer.put_instruction.Tie as tie
-use Rattle.tasklist.proofs.writer.put_instruction.Reads as reads
-use Rattle.tasklist.proofs.writer.put_instruction.Lts as lts
-use Rattle.tasklist.proofs.writer.put_four.Reads as put-four-reads
 
 enum-known-instruction : tie.Need-enum-known-instruction
 enum-known-instruction c = search needs
@@ -81,63 +78,99 @@ same-length c = search needs
 
 returns : tie.Need-returns
 unfolding instruction-fields
-returns c = c .before .before .put-four .ensures ∙ ap (λ (x : Instruction). sets (now (c .before .before .before .before .before .before .before .before .args .out)) (c .before .before .before .before .before .before .before .before .args .at) (instruction-fields x)) (sym (c .before .before .before .before .before .instruction .given .1))
+returns c =
+    let args = c .before .before .before .before .before .before .before .before .args in
+    let instruction = c .before .before .before .before .before .instruction in
+    c .before .before .put-four .ensures ∙ ap (λ (x : Instruction). sets (now (args .out)) (args .at)
+    (instruction-fields x)) (sym (instruction .given .1))
 
 same-length-2 : tie.Need-same-length-2
 same-length-2 c = search needs
 
 returns-2 : tie.Need-returns-2
 unfolding instruction-fields
-returns-2 c = c .before .before .put-four2 .ensures ∙ ap (λ (x : Instruction). sets (now (c .before .before .before .before .before .before .before .before .args .out)) (c .before .before .before .before .before .before .before .before .args .at) (instruction-fields x)) (sym (c .before .before .before .before .before .instruction2 .given .1))
+returns-2 c =
+    let args = c .before .before .before .before .before .before .before .before .args in
+    let instruction2 = c .before .before .before .before .before .instruction2 in
+    c .before .before .put-four2 .ensures ∙ ap (λ (x : Instruction). sets (now (args .out)) (args .at)
+    (instruction-fields x)) (sym (instruction2 .given .1))
 
 same-length-3 : tie.Need-same-length-3
 same-length-3 c = search needs
 
 returns-3 : tie.Need-returns-3
 unfolding instruction-fields
-returns-3 c = c .before .before .put-four3 .ensures ∙ ap (λ (x : Instruction). sets (now (c .before .before .before .before .before .before .before .before .args .out)) (c .before .before .before .before .before .before .before .before .args .at) (instruction-fields x)) (sym (c .before .before .before .before .before .instruction3 .given .1))
+returns-3 c =
+    let args = c .before .before .before .before .before .before .before .before .args in
+    let instruction3 = c .before .before .before .before .before .instruction3 in
+    c .before .before .put-four3 .ensures ∙ ap (λ (x : Instruction). sets (now (args .out)) (args .at)
+    (instruction-fields x)) (sym (instruction3 .given .1))
 
 same-length-4 : tie.Need-same-length-4
 same-length-4 c = search needs
 
 returns-4 : tie.Need-returns-4
 unfolding instruction-fields
-returns-4 c = c .before .before .put-four4 .ensures ∙ ap (λ (x : Instruction). sets (now (c .before .before .before .before .before .before .before .before .args .out)) (c .before .before .before .before .before .before .before .before .args .at) (instruction-fields x)) (sym (c .before .before .before .before .before .instruction4 .given .1))
+returns-4 c =
+    let args = c .before .before .before .before .before .before .before .before .args in
+    let instruction4 = c .before .before .before .before .before .instruction4 in
+    c .before .before .put-four4 .ensures ∙ ap (λ (x : Instruction). sets (now (args .out)) (args .at)
+    (instruction-fields x)) (sym (instruction4 .given .1))
 
 same-length-5 : tie.Need-same-length-5
 same-length-5 c = search needs
 
 returns-5 : tie.Need-returns-5
 unfolding instruction-fields
-returns-5 c = c .before .before .put-four5 .ensures ∙ ap (λ (x : Instruction). sets (now (c .before .before .before .before .before .before .before .before .args .out)) (c .before .before .before .before .before .before .before .before .args .at) (instruction-fields x)) (sym (c .before .before .before .before .before .instruction5 .given .1))
+returns-5 c =
+    let args = c .before .before .before .before .before .before .before .before .args in
+    let instruction5 = c .before .before .before .before .before .instruction5 in
+    c .before .before .put-four5 .ensures ∙ ap (λ (x : Instruction). sets (now (args .out)) (args .at)
+    (instruction-fields x)) (sym (instruction5 .given .1))
 
 same-length-6 : tie.Need-same-length-6
 same-length-6 c = search needs
 
 returns-6 : tie.Need-returns-6
 unfolding instruction-fields
-returns-6 c = c .before .before .put-four6 .ensures ∙ ap (λ (x : Instruction). sets (now (c .before .before .before .before .before .before .before .before .args .out)) (c .before .before .before .before .before .before .before .before .args .at) (instruction-fields x)) (sym (c .before .before .before .before .before .instruction6 .given .1))
+returns-6 c =
+    let args = c .before .before .before .before .before .before .before .before .args in
+    let instruction6 = c .before .before .before .before .before .instruction6 in
+    c .before .before .put-four6 .ensures ∙ ap (λ (x : Instruction). sets (now (args .out)) (args .at)
+    (instruction-fields x)) (sym (instruction6 .given .1))
 
 same-length-7 : tie.Need-same-length-7
 same-length-7 c = search needs
 
 returns-7 : tie.Need-returns-7
 unfolding instruction-fields
-returns-7 c = c .before .before .put-four7 .ensures ∙ ap (λ (x : Instruction). sets (now (c .before .before .before .before .before .before .before .before .args .out)) (c .before .before .before .before .before .before .before .before .args .at) (instruction-fields x)) (sym (c .before .before .before .before .before .instruction7 .given .1))
+returns-7 c =
+    let args = c .before .before .before .before .before .before .before .before .args in
+    let instruction7 = c .before .before .before .before .before .instruction7 in
+    c .before .before .put-four7 .ensures ∙ ap (λ (x : Instruction). sets (now (args .out)) (args .at)
+    (instruction-fields x)) (sym (instruction7 .given .1))
 
 same-length-8 : tie.Need-same-length-8
 same-length-8 c = search needs
 
 returns-8 : tie.Need-returns-8
 unfolding instruction-fields
-returns-8 c = c .before .before .put-four8 .ensures ∙ ap (λ (x : Instruction). sets (now (c .before .before .before .before .before .before .before .before .args .out)) (c .before .before .before .before .before .before .before .before .args .at) (instruction-fields x)) (sym (c .before .before .before .before .before .instruction8 .given .1))
+returns-8 c =
+    let args = c .before .before .before .before .before .before .before .before .args in
+    let instruction8 = c .before .before .before .before .before .instruction8 in
+    c .before .before .put-four8 .ensures ∙ ap (λ (x : Instruction). sets (now (args .out)) (args .at)
+    (instruction-fields x)) (sym (instruction8 .given .1))
 
 same-length-9 : tie.Need-same-length-9
 same-length-9 c = search needs
 
 returns-9 : tie.Need-returns-9
 unfolding instruction-fields
-returns-9 c = c .before .before .put-four9 .ensures ∙ ap (λ (x : Instruction). sets (now (c .before .before .before .before .before .before .before .before .args .out)) (c .before .before .before .before .before .before .before .before .args .at) (instruction-fields x)) (sym (c .before .before .before .before .before .instruction9 .given .1))
+returns-9 c =
+    let args = c .before .before .before .before .before .before .before .before .args in
+    let instruction9 = c .before .before .before .before .before .instruction9 in
+    c .before .before .put-four9 .ensures ∙ ap (λ (x : Instruction). sets (now (args .out)) (args .at)
+    (instruction-fields x)) (sym (instruction9 .given .1))
 
 pub put-instruction-spec : {M : Type 1} → statement M
 put-instruction-spec =

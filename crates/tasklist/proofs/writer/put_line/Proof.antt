@@ -12,8 +12,6 @@ use denote.Ref.{now}
 use borrow.Author.Needs.{needs}
 use Rattle.tasklist.proofs.writer.put_line.Statement.{statement}
 use Rattle.tasklist.proofs.writer.put_line.Tie as tie
-use Rattle.tasklist.proofs.writer.put_line.Reads as reads
-use Rattle.tasklist.proofs.writer.put_line.Lts as lts
 
 slice-write-out : tie.Need-slice-write-out
 slice-write-out c = search needs

@@ -11,8 +11,6 @@ use denote.Ref.{now}
 use borrow.Author.Needs.{needs}
 use Rattle.tasklist.proofs.writer.put_three.Statement.{statement}
 use Rattle.tasklist.proofs.writer.put_three.Tie as tie
-use Rattle.tasklist.proofs.writer.put_three.Reads as reads
-use Rattle.tasklist.proofs.writer.put_three.Lts as lts
 
 slice-write-out : tie.Need-slice-write-out
 slice-write-out c = search needs

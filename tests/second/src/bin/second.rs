@@ -1,0 +1,97 @@
+//! The second implementation on the command line.
+//! second check                      a list from standard input: count(0), or `refused K`
+//! second transcript JOBS LIBRARY    what the coordinator prints; calls from standard input
+//! second list-cases SEED N          N lines: list in hexadecimal, `ok COUNT` or `refused K`
+//! second list-files SEED N DIR      N lists as files of DIR, and a line for each, as check prints it
+//! second run-cases SEED N           N lines: jobs, library, input in hexadecimal, transcript
+
+use std::io::{Read, Write};
+
+use second::cases;
+use second::coordinator::open_files;
+use second::rng::Rng;
+
+fn main() {
+    let arguments: Vec<String> = std::env::args().skip(1).collect();
+    let words: Vec<&str> = arguments.iter().map(String::as_str).collect();
+    let text = match words[..] {
+        ["check"] => answer(&standard_input()),
+        ["transcript", jobs, library] => {
+            let jobs = file(jobs);
+            let library = file(library);
+            // After a failed open standard input is not used.
+            let input = match open_files(&jobs, &library) {
+                Ok(_) => standard_input(),
+                Err(_) => Vec::new(),
+            };
+            second::transcript(&jobs, &library, &input)
+        }
+        ["list-cases", seed, n] => {
+            let mut rng = Rng::new(number(seed));
+            let mut text = String::new();
+            for _ in 0..number(n) {
+                text.push_str(&cases::list_case_line(&cases::list_case(&mut rng)));
+                text.push('\n');
+            }
+            text
+        }
+        ["list-files", seed, n, folder] => {
+            let mut rng = Rng::new(number(seed));
+            let mut text = String::new();
+            for i in 0..number(n) {
+                let bytes = cases::list_case(&mut rng);
+                let path = format!("{folder}/{i:06}.bin");
+                if let Err(error) = std::fs::write(&path, &bytes) {
+                    eprintln!("{path}: {error}");
+                    std::process::exit(1)
+                }
+                text.push_str(&answer(&bytes));
+            }
+            text
+        }
+        ["run-cases", seed, n] => {
+            let mut rng = Rng::new(number(seed));
+            let mut text = String::new();
+            for _ in 0..number(n) {
+                let (jobs, library, input) = cases::run_case(&mut rng);
+                text.push_str(&cases::run_case_line(&jobs, &library, &input));
+                text.push('\n');
+            }
+            text
+        }
+        _ => usage(),
+    };
+    let _ = std::io::stdout().write_all(text.as_bytes());
+}
+
+fn answer(list: &[u8]) -> String {
+    match second::check(list) {
+        Ok(count) => format!("{count}\n"),
+        Err(refusal) => format!("refused {refusal}\n"),
+    }
+}
+
+/// "an unreadable file counts as empty"
+fn file(path: &str) -> Vec<u8> {
+    std::fs::read(path).unwrap_or_default()
+}
+
+fn standard_input() -> Vec<u8> {
+    let mut bytes = Vec::new();
+    match std::io::stdin().read_to_end(&mut bytes) {
+        Ok(_) => bytes,
+        Err(_) => Vec::new(),
+    }
+}
+
+fn number(word: &str) -> u64 {
+    match word.parse() {
+        Ok(number) => number,
+        Err(_) => usage(),
+    }
+}
+
+fn usage() -> ! {
+    eprintln!("second check | transcript JOBS LIBRARY | list-cases SEED N | list-files SEED N DIR | run-cases SEED N");
+    std::process::exit(2)
+}

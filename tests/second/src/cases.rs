@@ -1,0 +1,1031 @@
+//! Random cases, the same for the same seed: job lists, damaged lists, libraries, orders of calls.
+
+use crate::coordinator::{call, open_files};
+use crate::list::{
+    check, encode, encode_instruction, task_count, Instruction, Line, TaskList, COUNT_CAP,
+};
+use crate::rng::Rng;
+use crate::run::{
+    at_its_end, refusal_of_end, refusal_of_start, refusal_of_step, Run, NONE, READ, WAITING, WRITE,
+};
+
+/// P of "Publishing examples", byte by byte.
+pub const EXAMPLE_P: [u8; 54] = [
+    0x4A, 0x48, 2, 2, 3, // head: C = 2, two footprints, three sheets
+    0x4A, 0x46, 1, 1, 0, // footprint 0: write 0
+    0x4A, 0x46, 2, 0, 0, 1, 1, // footprint 1: read 0, write 1
+    0x4A, 0x42, 2, 7, 1, 0, 0, 7, 2, 1, 0, // sheet 0: spawn 1 with 0; spawn 2 with 1
+    0x4A, 0x42, 2, 0, 1, 9, 0, 5, 0, 1, 0, // sheet 1: const R1 9; store R0 R1
+    0x4A, 0x42, 3, 4, 1, 0, 0, 0, 2, 1, 0, 5, 2, 1, 0, // sheet 2: load, const, store
+];
+
+// ---------------------------------------------------------------------------------------------
+// Job lists
+
+/// What a random list looks like.
+#[derive(Clone, Debug)]
+pub struct Shape {
+    pub locations: usize,
+    pub footprints: usize,
+    pub bodies: usize,
+    /// Most lines of a footprint, most instructions of a body.
+    pub lines: usize,
+    pub instructions: usize,
+    /// Every footprint and body has the most.
+    pub full: bool,
+    /// How often an instruction is a spawn.
+    pub spawn_percent: usize,
+    /// How often fields are chosen so that the step should not fault.
+    pub tame_percent: usize,
+    /// The largest count(0), and the largest count of the other bodies.
+    pub root_limit: u64,
+    pub other_limit: u64,
+    /// Body 0 spawns the largest that fit.
+    pub fill: bool,
+}
+
+/// One of the shapes, with its sizes drawn.
+pub fn random_shape(rng: &mut Rng) -> Shape {
+    let medium = Shape {
+        locations: rng.between(2, 8),
+        footprints: rng.between(2, 8),
+        bodies: rng.between(3, 8),
+        lines: 4,
+        instructions: 12,
+        full: false,
+        spawn_percent: 40,
+        tame_percent: 98,
+        root_limit: 128,
+        other_limit: 30,
+        fill: false,
+    };
+    match rng.below(13) {
+        0 | 1 => Shape {
+            locations: rng.between(1, 3),
+            footprints: rng.between(1, 4),
+            bodies: rng.between(1, 4),
+            lines: 3,
+            instructions: 6,
+            ..medium
+        },
+        2 | 3 => medium,
+        // Trees near 128 jobs.
+        4 => Shape {
+            locations: rng.between(1, 4),
+            bodies: rng.between(5, 9),
+            instructions: rng.between(4, 20),
+            full: true,
+            spawn_percent: 75,
+            root_limit: rng.between(120, 128) as u64,
+            other_limit: rng.between(2, 64) as u64,
+            fill: true,
+            ..medium
+        },
+        // The longest list.
+        5 => Shape {
+            locations: 64,
+            footprints: 32,
+            bodies: 32,
+            lines: 8,
+            instructions: 32,
+            full: true,
+            spawn_percent: 20,
+            other_limit: rng.pick(&[6, 20, COUNT_CAP]),
+            ..medium
+        },
+        // One entry, many readers and writers.
+        6 => Shape {
+            locations: 1,
+            lines: 1,
+            spawn_percent: 60,
+            ..medium
+        },
+        7 => Shape {
+            locations: 64,
+            lines: 8,
+            ..medium
+        },
+        // Bodies that are mostly empty.
+        8 => Shape {
+            bodies: rng.between(1, 32),
+            instructions: rng.below(3),
+            ..medium
+        },
+        // Bodies that job 0 doesn't reach, with huge counts.
+        9 => Shape {
+            bodies: rng.between(16, 32),
+            instructions: 32,
+            full: rng.percent(50),
+            spawn_percent: 50,
+            other_limit: COUNT_CAP,
+            ..medium
+        },
+        // Any fields: most jobs fault.
+        10 | 11 => Shape {
+            tame_percent: 30,
+            ..medium
+        },
+        _ => Shape {
+            footprints: 0,
+            bodies: rng.between(1, 32),
+            ..medium
+        },
+    }
+}
+
+/// An accepted list.
+pub fn random_list(rng: &mut Rng) -> TaskList {
+    let shape = random_shape(rng);
+    list_of_shape(rng, &shape)
+}
+
+/// A list of this shape. It is accepted when the shape's numbers are in range.
+pub fn list_of_shape(rng: &mut Rng, shape: &Shape) -> TaskList {
+    let mut list = TaskList {
+        locations: shape.locations,
+        footprints: Vec::new(),
+        bodies: vec![Vec::new(); shape.bodies],
+    };
+    for _ in 0..shape.footprints {
+        let footprint = random_footprint(rng, shape, &list.footprints);
+        list.footprints.push(footprint);
+    }
+    let homes = choose_homes(rng, shape, &list);
+    for s in (0..shape.bodies).rev() {
+        list.bodies[s] = random_body(rng, shape, s, &list, &homes);
+    }
+    list
+}
+
+/// Lines drawn at random, or a weaker copy of an earlier footprint, or distinct entries.
+fn random_footprint(rng: &mut Rng, shape: &Shape, earlier: &[Vec<Line>]) -> Vec<Line> {
+    let count = if shape.full {
+        shape.lines
+    } else {
+        rng.below(shape.lines + 1)
+    };
+    let mut footprint = Vec::new();
+    if !rng.percent(shape.tame_percent) {
+        for _ in 0..count {
+            let kind = rng.below(4) as u8;
+            let most = if kind < 2 { shape.locations } else { 4 };
+            footprint.push(Line {
+                kind,
+                value: rng.below(most) as u8,
+            });
+        }
+        return footprint;
+    }
+    if !earlier.is_empty() && !shape.full && rng.percent(50) {
+        for line in &earlier[rng.below(earlier.len())] {
+            if rng.percent(80) {
+                // Kinds 1 and 3 write, 0 and 2 read the same.
+                let weaker = line.kind % 2 == 1 && rng.percent(50);
+                let kind = if weaker { line.kind - 1 } else { line.kind };
+                footprint.push(Line {
+                    kind,
+                    value: line.value,
+                });
+            }
+        }
+        return footprint;
+    }
+    let mut locations: Vec<usize> = (0..shape.locations).collect();
+    rng.shuffle(&mut locations);
+    let mut registers = vec![0, 1, 2, 3];
+    rng.shuffle(&mut registers);
+    for i in 0..count {
+        let writes = rng.below(2) as u8;
+        if rng.percent(15) && !registers.is_empty() {
+            footprint.push(Line {
+                kind: 2 + writes,
+                value: registers.pop().unwrap(),
+            });
+        } else {
+            let location = locations[i % locations.len()];
+            footprint.push(Line {
+                kind: writes,
+                value: location as u8,
+            });
+        }
+    }
+    footprint
+}
+
+/// The footprint that each body is mostly spawned with; none for body 0 (it has every entry).
+fn choose_homes(rng: &mut Rng, shape: &Shape, list: &TaskList) -> Vec<Option<usize>> {
+    let mut homes = vec![None];
+    for s in 1..shape.bodies {
+        let spawner = if rng.percent(40) { 0 } else { rng.below(s) };
+        let own = likely_modes(list, &homes, spawner);
+        let mut fitting = Vec::new();
+        for f in 0..list.footprints.len() {
+            if footprint_fits(&list.footprints[f], &own) {
+                fitting.push(f);
+            }
+        }
+        if fitting.is_empty() {
+            homes.push(if shape.footprints > 0 {
+                Some(rng.below(shape.footprints))
+            } else {
+                None
+            });
+        } else {
+            homes.push(Some(rng.pick(&fitting)));
+        }
+    }
+    homes
+}
+
+/// The modes that a job of body s most likely has, from the lines that name an entry.
+fn likely_modes(list: &TaskList, homes: &[Option<usize>], s: usize) -> Vec<u8> {
+    if s == 0 {
+        return vec![WRITE; list.locations];
+    }
+    let mut modes = vec![NONE; list.locations];
+    if let Some(f) = homes[s] {
+        for line in &list.footprints[f] {
+            if line.kind < 2 {
+                modes[line.value as usize] = line.kind + 1;
+            }
+        }
+    }
+    modes
+}
+
+/// Whether a spawner with these modes likely spawns with this footprint without a fault.
+fn footprint_fits(footprint: &[Line], own: &[u8]) -> bool {
+    footprint.iter().all(|line| {
+        let needed = if line.kind % 2 == 0 { READ } else { WRITE };
+        if line.kind < 2 {
+            own[line.value as usize] >= needed
+        } else {
+            own.iter().any(|mode| *mode >= needed)
+        }
+    })
+}
+
+/// The instructions of body s; the bodies above s are already made.
+fn random_body(
+    rng: &mut Rng,
+    shape: &Shape,
+    s: usize,
+    list: &TaskList,
+    homes: &[Option<usize>],
+) -> Vec<Instruction> {
+    let length = if shape.full {
+        shape.instructions
+    } else {
+        rng.below(shape.instructions + 1)
+    };
+    let limit = if s == 0 {
+        shape.root_limit
+    } else {
+        shape.other_limit
+    };
+    let own = likely_modes(list, homes, s);
+    let mut count = 1;
+    let mut body = Vec::new();
+    while body.len() < length {
+        let mut group = Vec::new();
+        if rng.percent(shape.spawn_percent) {
+            let room = limit - count;
+            group = spawn_group(rng, shape, s, list, homes, &own, room);
+        }
+        if group.is_empty() {
+            group = other_group(rng, shape, s, list, homes, &own);
+        }
+        if body.len() + group.len() > length {
+            // No room for the preparation: mostly a wait-free instruction, else the last one alone.
+            let last = group[group.len() - 1];
+            let free = Instruction::Less { a: 0, b: 1, c: 2 };
+            group = vec![if rng.percent(shape.tame_percent) {
+                free
+            } else {
+                last
+            }];
+        }
+        for instruction in group {
+            if let Instruction::Spawn { body: a, .. } = instruction {
+                count += task_count(list, a as usize);
+            }
+            body.push(instruction);
+        }
+    }
+    for pc in 0..length {
+        if let Instruction::Skip { a, .. } = body[pc] {
+            let most = length - pc - 1;
+            let b = if rng.percent(70) {
+                rng.below(most.min(3) + 1)
+            } else {
+                rng.below(most + 1)
+            };
+            body[pc] = Instruction::Skip { a, b: b as u8 };
+        }
+    }
+    body
+}
+
+/// A spawn whose count is at most `room`, behind the constants for its register lines; empty when
+/// there is none.
+fn spawn_group(
+    rng: &mut Rng,
+    shape: &Shape,
+    s: usize,
+    list: &TaskList,
+    homes: &[Option<usize>],
+    own: &[u8],
+    room: u64,
+) -> Vec<Instruction> {
+    let mut group = Vec::new();
+    let tame = rng.percent(shape.tame_percent);
+    let mut targets = Vec::new();
+    for a in s + 1..shape.bodies {
+        if task_count(list, a) <= room {
+            targets.push(a);
+        }
+    }
+    if targets.is_empty() || list.footprints.is_empty() {
+        return group;
+    }
+    let fitting: Vec<usize> = targets
+        .iter()
+        .copied()
+        .filter(|a| footprint_fits(&list.footprints[homes[*a].unwrap()], own))
+        .collect();
+    if tame {
+        targets = fitting;
+    }
+    if targets.is_empty() {
+        return group;
+    }
+    let mut a = rng.pick(&targets);
+    if shape.fill && s == 0 {
+        for other in &targets {
+            if task_count(list, *other) > task_count(list, a) {
+                a = *other;
+            }
+        }
+    }
+    let mut footprint = homes[a].unwrap();
+    if !tame {
+        footprint = rng.below(list.footprints.len());
+    }
+    if tame {
+        let mut used = Vec::new();
+        for line in &list.footprints[footprint] {
+            if line.kind < 2 {
+                used.push(line.value as usize);
+            }
+        }
+        for line in &list.footprints[footprint] {
+            if line.kind >= 2 {
+                let needed = line.kind - 1;
+                let free: Vec<usize> = (0..list.locations)
+                    .filter(|location| own[*location] >= needed && !used.contains(location))
+                    .collect();
+                if !free.is_empty() {
+                    let location = rng.pick(&free);
+                    used.push(location);
+                    group.push(Instruction::Const {
+                        a: line.value,
+                        value: location as u16,
+                    });
+                }
+            }
+        }
+    }
+    group.push(Instruction::Spawn {
+        body: a as u8,
+        footprint: footprint as u8,
+    });
+    group
+}
+
+/// Any instruction but a spawn; a load, store or wait mostly behind the constant for its entry.
+fn other_group(
+    rng: &mut Rng,
+    shape: &Shape,
+    s: usize,
+    list: &TaskList,
+    homes: &[Option<usize>],
+    own: &[u8],
+) -> Vec<Instruction> {
+    let a = rng.below(4) as u8;
+    let b = rng.below(4) as u8;
+    let c = rng.below(4) as u8;
+    match rng.below(12) {
+        0 => {
+            let value = match rng.below(10) {
+                0 => rng.below(65536),
+                1 => 65535,
+                2 => shape.locations,
+                _ => rng.below(shape.locations + 1),
+            };
+            vec![Instruction::Const {
+                a,
+                value: value as u16,
+            }]
+        }
+        1 => vec![Instruction::Add { a, b, c }],
+        2 => vec![Instruction::Sub { a, b, c }],
+        3 => vec![Instruction::Less { a, b, c }],
+        4 => vec![Instruction::Skip { a, b: 0 }],
+        kind => {
+            let needed = if (8..=10).contains(&kind) {
+                WRITE
+            } else {
+                READ
+            };
+            let mut group = Vec::new();
+            let mut register = rng.below(4) as u8;
+            if rng.percent(shape.tame_percent) {
+                match prepare_location(rng, s, list, homes, own, needed, &mut group) {
+                    Some(prepared) => register = prepared,
+                    None => return vec![Instruction::Const { a, value: b as u16 }],
+                }
+            }
+            group.push(match kind {
+                5..=7 => Instruction::Load { a, b: register },
+                8..=10 => Instruction::Store { a: register, b },
+                _ => Instruction::Wait { a: register },
+            });
+            group
+        }
+    }
+}
+
+/// A register that should hold an entry which the job may use in this mode: one that a register line
+/// of its footprint used, or one that a constant sets now; none when it has no such entry.
+fn prepare_location(
+    rng: &mut Rng,
+    s: usize,
+    list: &TaskList,
+    homes: &[Option<usize>],
+    own: &[u8],
+    needed: u8,
+    group: &mut Vec<Instruction>,
+) -> Option<u8> {
+    let mut inherited = Vec::new();
+    if let Some(f) = homes[s] {
+        for line in &list.footprints[f] {
+            if line.kind >= 2 && line.kind > needed {
+                inherited.push(line.value);
+            }
+        }
+    }
+    if !inherited.is_empty() && rng.percent(50) {
+        return Some(rng.pick(&inherited));
+    }
+    let fitting: Vec<usize> = (0..list.locations).filter(|e| own[*e] >= needed).collect();
+    if fitting.is_empty() {
+        return None;
+    }
+    let register = rng.below(4) as u8;
+    group.push(Instruction::Const {
+        a: register,
+        value: rng.pick(&fitting) as u16,
+    });
+    Some(register)
+}
+
+/// The list of "Seven sheets, each but the last spawning the next twice", sheet 0 also spawning the
+/// last `more` times: 127 + more jobs.
+pub fn doubling_list(more: usize) -> TaskList {
+    let mut list = TaskList {
+        locations: 1,
+        footprints: vec![Vec::new()],
+        bodies: Vec::new(),
+    };
+    for s in 0..7u8 {
+        let mut body = Vec::new();
+        if s < 6 {
+            body.push(Instruction::Spawn {
+                body: s + 1,
+                footprint: 0,
+            });
+            body.push(Instruction::Spawn {
+                body: s + 1,
+                footprint: 0,
+            });
+        }
+        list.bodies.push(body);
+    }
+    for _ in 0..more {
+        list.bodies[0].push(Instruction::Spawn {
+            body: 6,
+            footprint: 0,
+        });
+    }
+    list
+}
+
+// ---------------------------------------------------------------------------------------------
+// Damaged lists
+
+/// The fields of a list, "(mark, number, line, instruction)".
+#[derive(Clone, Copy, Debug, PartialEq, Eq)]
+pub enum Field {
+    Tag,
+    Locations,
+    FootprintCount,
+    BodyCount,
+    LineCount,
+    Line,
+    InstructionCount,
+    Instruction { body: usize, pc: usize },
+}
+
+/// Each field of the list's bytes with the place of its first byte.
+pub fn fields(list: &TaskList) -> Vec<(Field, usize)> {
+    let mut fields = vec![
+        (Field::Tag, 0),
+        (Field::Locations, 2),
+        (Field::FootprintCount, 3),
+        (Field::BodyCount, 4),
+    ];
+    let mut offset = 5;
+    for footprint in &list.footprints {
+        fields.push((Field::Tag, offset));
+        fields.push((Field::LineCount, offset + 2));
+        offset += 3;
+        for _ in footprint {
+            fields.push((Field::Line, offset));
+            offset += 2;
+        }
+    }
+    for (body, instructions) in list.bodies.iter().enumerate() {
+        fields.push((Field::Tag, offset));
+        fields.push((Field::InstructionCount, offset + 2));
+        offset += 3;
+        for pc in 0..instructions.len() {
+            fields.push((Field::Instruction { body, pc }, offset));
+            offset += 4;
+        }
+    }
+    fields
+}
+
+/// The list cut at each length, from 0 to one byte short.
+pub fn truncations(bytes: &[u8]) -> Vec<Vec<u8>> {
+    (0..bytes.len())
+        .map(|length| bytes[..length].to_vec())
+        .collect()
+}
+
+/// The list with each byte altered in turn.
+pub fn alterations(rng: &mut Rng, bytes: &[u8]) -> Vec<Vec<u8>> {
+    (0..bytes.len())
+        .map(|place| altered_at(rng, bytes, place))
+        .collect()
+}
+
+/// The list with this byte altered: a near value, a small one or any other.
+fn altered_at(rng: &mut Rng, bytes: &[u8], place: usize) -> Vec<u8> {
+    let mut altered = bytes.to_vec();
+    while altered[place] == bytes[place] {
+        altered[place] = match rng.below(4) {
+            0 => bytes[place].wrapping_add(1),
+            1 => bytes[place].wrapping_sub(1),
+            2 => rng.below(10) as u8,
+            _ => rng.byte(),
+        };
+    }
+    altered
+}
+
+/// A byte from `least` to 255, often the least.
+fn byte_from(rng: &mut Rng, least: usize) -> u8 {
+    if rng.percent(50) {
+        least as u8
+    } else {
+        rng.between(least, 255) as u8
+    }
+}
+
+/// A list that is refused with this number, 1 to 7; the first damaged field is the one named.
+pub fn damaged_list(rng: &mut Rng, refusal: u32) -> Vec<u8> {
+    match refusal {
+        1 => {
+            let bytes = encode(&random_list(rng));
+            bytes[..rng.below(bytes.len())].to_vec()
+        }
+        6 => {
+            // 6 comes before 7.
+            let mut bytes = if rng.percent(80) {
+                encode(&random_list(rng))
+            } else {
+                encode(&too_many_tasks(rng))
+            };
+            for _ in 0..rng.between(1, 5) {
+                bytes.push(rng.byte());
+            }
+            bytes
+        }
+        7 => encode(&too_many_tasks(rng)),
+        _ => loop {
+            let list = random_list(rng);
+            if let Some(bytes) = damaged_field(rng, &list, refusal) {
+                return bytes;
+            }
+        },
+    }
+}
+
+/// A list whose only fault is count(0), often by one, sometimes beyond any machine word.
+pub fn too_many_tasks(rng: &mut Rng) -> TaskList {
+    if rng.percent(30) {
+        return doubling_list(rng.between(2, 30));
+    }
+    loop {
+        let shape = Shape {
+            bodies: rng.between(6, 32),
+            footprints: rng.between(1, 8),
+            instructions: rng.between(6, 32),
+            full: true,
+            spawn_percent: rng.between(40, 100),
+            root_limit: rng.pick(&[129, 130, COUNT_CAP * 100]),
+            other_limit: rng.pick(&[20, 60, COUNT_CAP * 100]),
+            fill: true,
+            ..random_shape(rng)
+        };
+        let list = list_of_shape(rng, &shape);
+        if task_count(&list, 0) > 128 {
+            return list;
+        }
+    }
+}
+
+/// The list with one field damaged so that it gives this refusal, 2 to 5, whatever follows it; none
+/// when the list has no such field.
+fn damaged_field(rng: &mut Rng, list: &TaskList, refusal: u32) -> Option<Vec<u8>> {
+    let wanted: Vec<(Field, usize)> = fields(list)
+        .into_iter()
+        .filter(|(field, _)| refusal_of_field(field) == refusal)
+        .collect();
+    if wanted.is_empty() {
+        return None;
+    }
+    let (field, offset) = rng.pick(&wanted);
+    let mut bytes = encode(list);
+    match field {
+        Field::Tag => {
+            let place = offset + rng.below(2);
+            bytes = altered_at(rng, &bytes, place);
+        }
+        Field::Locations => {
+            bytes[offset] = if rng.percent(30) {
+                0
+            } else {
+                byte_from(rng, 65)
+            };
+        }
+        Field::FootprintCount => bytes[offset] = byte_from(rng, 33),
+        Field::BodyCount => {
+            bytes[offset] = if rng.percent(30) {
+                0
+            } else {
+                byte_from(rng, 33)
+            };
+        }
+        Field::LineCount => bytes[offset] = byte_from(rng, 9),
+        Field::Line => {
+            let kind = rng.below(5) as u8;
+            let (kind, value) = match kind {
+                0 | 1 => (kind, byte_from(rng, list.locations)),
+                2 | 3 => (kind, byte_from(rng, 4)),
+                _ => (byte_from(rng, 4), 0),
+            };
+            bytes[offset] = kind;
+            bytes[offset + 1] = value;
+        }
+        Field::InstructionCount => bytes[offset] = byte_from(rng, 33),
+        Field::Instruction { body, pc } => {
+            let bad = bad_instruction(rng, list, body, pc);
+            bytes[offset..offset + 4].copy_from_slice(&bad);
+        }
+    }
+    // What follows the damaged field doesn't matter, once the field is whole.
+    if rng.percent(20) {
+        let whole = match field {
+            Field::Tag | Field::Line => 2,
+            Field::Instruction { .. } => 4,
+            _ => 1,
+        };
+        bytes.truncate(offset + whole);
+    }
+    Some(bytes)
+}
+
+fn refusal_of_field(field: &Field) -> u32 {
+    match field {
+        Field::Tag => 2,
+        Field::Locations | Field::FootprintCount | Field::BodyCount => 3,
+        Field::LineCount | Field::Line => 4,
+        Field::InstructionCount | Field::Instruction { .. } => 5,
+    }
+}
+
+/// Four bytes that are a bad instruction at this place.
+fn bad_instruction(rng: &mut Rng, list: &TaskList, body: usize, pc: usize) -> [u8; 4] {
+    let registers = [rng.below(4) as u8, rng.below(4) as u8, rng.below(4) as u8];
+    let count = list.bodies[body].len();
+    match rng.below(6) {
+        // Another code.
+        0 => [byte_from(rng, 9), registers[0], 0, 0],
+        // A register above 3.
+        1 => {
+            let (code, listed) = rng.pick(&[
+                (0, 1),
+                (1, 3),
+                (2, 3),
+                (3, 3),
+                (4, 2),
+                (5, 2),
+                (6, 1),
+                (8, 1),
+            ]);
+            let mut bad = [code, 0, 0, 0];
+            for i in 0..listed {
+                bad[1 + i] = registers[i];
+            }
+            bad[1 + rng.below(listed)] = byte_from(rng, 4);
+            bad
+        }
+        // A field that isn't listed.
+        2 => match list.bodies[body][pc] {
+            Instruction::Load { .. }
+            | Instruction::Store { .. }
+            | Instruction::Skip { .. }
+            | Instruction::Spawn { .. } => {
+                let mut bad = encode_instruction(&list.bodies[body][pc]);
+                bad[3] = byte_from(rng, 1);
+                bad
+            }
+            _ => {
+                let mut bad = [8, registers[0], 0, 0];
+                bad[2 + rng.below(2)] = byte_from(rng, 1);
+                bad
+            }
+        },
+        // A skip one or more places too far.
+        3 => [6, registers[0], byte_from(rng, count - pc), 0],
+        // A sheet that isn't higher, or not of the list.
+        4 => {
+            let target = if rng.percent(50) {
+                rng.below(body + 1) as u8
+            } else {
+                byte_from(rng, list.bodies.len())
+            };
+            [7, target, 0, 0]
+        }
+        // A footprint not of the list.
+        _ => {
+            let target = (body + 1).min(list.bodies.len() - 1);
+            [7, target as u8, byte_from(rng, list.footprints.len()), 0]
+        }
+    }
+}
+
+/// The bytes of a list, accepted or not: every kind of case for the list layer.
+pub fn list_case(rng: &mut Rng) -> Vec<u8> {
+    match rng.below(20) {
+        0..=5 => encode(&random_list(rng)),
+        6..=9 => {
+            let bytes = encode(&random_list(rng));
+            let place = rng.below(bytes.len());
+            altered_at(rng, &bytes, place)
+        }
+        // Damaged twice: the first damaged field decides.
+        10 | 11 => {
+            let mut bytes = encode(&random_list(rng));
+            for _ in 0..rng.between(2, 4) {
+                let place = rng.below(bytes.len());
+                bytes = altered_at(rng, &bytes, place);
+            }
+            if rng.percent(50) {
+                bytes.truncate(rng.below(bytes.len() + 1));
+            }
+            bytes
+        }
+        12 => encode(&doubling_list(rng.below(4))),
+        // A good head and bytes drawn from those that lists are made of.
+        13 => {
+            let mut bytes = vec![0x4A, 0x48, rng.between(1, 3) as u8, 0, 1, 0x4A, 0x42];
+            let count = rng.below(4) as u8;
+            bytes.push(count);
+            for _ in 0..rng.below(20) {
+                bytes.push(rng.below(9) as u8);
+            }
+            bytes
+        }
+        _ => {
+            let refusal = rng.between(1, 7) as u32;
+            damaged_list(rng, refusal)
+        }
+    }
+}
+
+/// One line of list-cases: the list in hexadecimal (nothing for the empty list), a space, the answer.
+pub fn list_case_line(bytes: &[u8]) -> String {
+    match check(bytes) {
+        Ok(count) => format!("{} ok {count}", hex(bytes)),
+        Err(refusal) => format!("{} refused {refusal}", hex(bytes)),
+    }
+}
+
+pub fn hex(bytes: &[u8]) -> String {
+    bytes.iter().map(|byte| format!("{byte:02x}")).collect()
+}
+
+// ---------------------------------------------------------------------------------------------
+// Libraries and orders of calls
+
+/// Numbers for `count` entries: mostly small, so that some are entry numbers.
+pub fn random_library(rng: &mut Rng, count: usize) -> Vec<u32> {
+    let mut library = Vec::new();
+    for _ in 0..count {
+        library.push(match rng.below(8) {
+            0 => rng.next_u64() as u32,
+            1 => u32::MAX - rng.below(2) as u32,
+            2 => 0,
+            _ => rng.below(count + 2) as u32,
+        });
+    }
+    library
+}
+
+/// The bytes of library.bin: "4 bytes per entry, least first".
+pub fn library_bytes(library: &[u32]) -> Vec<u8> {
+    library
+        .iter()
+        .flat_map(|number| number.to_le_bytes())
+        .collect()
+}
+
+/// Which of the jobs in the order a sensible call prefers.
+#[derive(Clone, Copy, Debug)]
+pub enum Strategy {
+    Any,
+    Front,
+    Back,
+    /// Stays with the job called last.
+    Same,
+    /// Leaves the job called last.
+    Other,
+    /// Ends only when nothing else is accepted, so that the order grows long.
+    LateEnds,
+}
+
+pub const STRATEGIES: [Strategy; 6] = [
+    Strategy::Any,
+    Strategy::Front,
+    Strategy::Back,
+    Strategy::Same,
+    Strategy::Other,
+    Strategy::LateEnds,
+];
+
+/// An accepted call, none when there is none: each job's only possible next call, in the order that
+/// the strategy prefers.
+pub fn sensible_call(rng: &mut Rng, strategy: Strategy, run: &Run, last: u32) -> Option<(u8, u32)> {
+    let mut tasks = run.order.clone();
+    match strategy {
+        Strategy::Any => rng.shuffle(&mut tasks),
+        Strategy::Front => {}
+        Strategy::Back => tasks.reverse(),
+        Strategy::Same => {
+            rng.shuffle(&mut tasks);
+            tasks.sort_by_key(|task| *task as u32 != last);
+        }
+        Strategy::Other => {
+            rng.shuffle(&mut tasks);
+            tasks.sort_by_key(|task| *task as u32 == last);
+        }
+        Strategy::LateEnds => {
+            rng.shuffle(&mut tasks);
+            tasks.sort_by_key(|task| at_its_end(run, *task));
+        }
+    }
+    for task in tasks {
+        let number = task as u32;
+        let (kind, refusal) = if run.records[task].state == WAITING {
+            (0, refusal_of_start(run, number))
+        } else if at_its_end(run, task) {
+            (2, refusal_of_end(run, number))
+        } else {
+            (1, refusal_of_step(run, number))
+        };
+        if refusal.is_none() {
+            return Some((kind, number));
+        }
+    }
+    None
+}
+
+/// Any call, mostly one that is refused.
+pub fn any_call(rng: &mut Rng, run: &Run) -> (u8, u32) {
+    let kind = rng.below(3) as u8;
+    let task = match rng.below(11) {
+        0 => rng.between(128, 255) as u32,
+        1 => rng.pick(&[127, 128, 129, 255, 256, u32::MAX]),
+        10 => rng.next_u64() as u32,
+        2 | 3 => rng.below(128) as u32,
+        4 => rng.below(8) as u32,
+        _ if !run.order.is_empty() => rng.pick(&run.order) as u32,
+        _ => 0,
+    };
+    (kind, task)
+}
+
+/// The next call of a random order: sensible, or in `any_percent` of the cases any.
+pub fn next_call(
+    rng: &mut Rng,
+    strategy: Strategy,
+    run: &Run,
+    last: u32,
+    any_percent: usize,
+) -> (u8, u32) {
+    if rng.percent(any_percent) {
+        return any_call(rng, run);
+    }
+    match sensible_call(rng, strategy, run, last) {
+        Some(call) => call,
+        None => any_call(rng, run),
+    }
+}
+
+/// Standard input for the coordinator: two-byte calls, refused ones, other kinds and sometimes half a
+/// call at the end; until no job is left, or cut before.
+pub fn random_input(rng: &mut Rng, jobs: &[u8], library_bytes: &[u8]) -> Vec<u8> {
+    let mut input = Vec::new();
+    let mut run = match open_files(jobs, library_bytes) {
+        Ok(run) => run,
+        Err(_) => {
+            for _ in 0..rng.below(10) {
+                input.push(rng.byte());
+            }
+            return input;
+        }
+    };
+    let strategy = rng.pick(&STRATEGIES);
+    let any_percent = rng.pick(&[0, 10, 50]);
+    let most_calls = if rng.percent(30) {
+        rng.below(40)
+    } else {
+        usize::MAX
+    };
+    let mut last = 0;
+    let mut calls = 0;
+    while calls < most_calls && !run.order.is_empty() {
+        let (mut kind, task) = next_call(rng, strategy, &run, last, any_percent);
+        if task > 255 {
+            continue;
+        }
+        if rng.percent(any_percent / 10) {
+            kind = byte_from(rng, 3);
+        }
+        input.push(kind);
+        input.push(task as u8);
+        if call(&mut run, kind, task).is_ok() {
+            last = task;
+        }
+        calls += 1;
+    }
+    // Some calls with no job left, some half a call.
+    for _ in 0..rng.below(3) {
+        input.push(rng.below(4) as u8);
+        input.push(rng.byte());
+    }
+    if rng.percent(20) {
+        input.push(rng.below(4) as u8);
+    }
+    input
+}
+
+/// The three inputs of a case for the coordinator: jobs.bin, library.bin, standard input.
+pub fn run_case(rng: &mut Rng) -> (Vec<u8>, Vec<u8>, Vec<u8>) {
+    let list = random_list(rng);
+    let mut jobs = encode(&list);
+    if rng.percent(3) {
+        jobs = list_case(rng);
+    }
+    let mut library = library_bytes(&random_library(rng, list.locations));
+    if rng.percent(3) {
+        match rng.below(3) {
+            0 => library.push(0),
+            1 => library.truncate(library.len() - 1),
+            _ => library.clear(),
+        }
+    }
+    let input = random_input(rng, &jobs, &library);
+    (jobs, library, input)
+}
+
+/// One line of run-cases: jobs, library and input in hexadecimal and the transcript with `/` for each
+/// line feed, parted by single spaces; the spaces inside the transcript are `,`.
+pub fn run_case_line(jobs: &[u8], library: &[u8], input: &[u8]) -> String {
+    let text = crate::coordinator::transcript(jobs, library, input);
+    let text = text.replace(' ', ",").replace('\n', "/");
+    format!("{} {} {} {text}", hex(jobs), hex(library), hex(input))
+}

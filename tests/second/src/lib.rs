@@ -1,0 +1,16 @@
+//! The second implementation of the task runtime, for comparison with the first.
+//! It is written from document 01 alone, literally and slowly: one function per sentence, each
+//! sentence named in a comment. Quoted words are document 01's.
+//! Document 01's words and the names here: job = task, entry = location, entries = memory,
+//! sheet = body, place = pc, mark = tag, instructions done = steps, held back = blocked.
+//! A refusal is document 01's number, as `Err(number)`.
+
+pub mod cases;
+pub mod coordinator;
+pub mod list;
+pub mod rng;
+pub mod run;
+
+pub use coordinator::{preview_check, preview_hand_run, transcript};
+pub use list::{check, decode, encode, write, Instruction, Line, TaskList};
+pub use run::{end, hand_run, open, queue, record, start, step, Record, Run};

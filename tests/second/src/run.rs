@@ -1,0 +1,498 @@
+//! Jobs, order, queues, calls and the hand run.
+
+use crate::list::{decode, task_counts, Instruction, Line, TaskList, SLICE_TOO_SHORT};
+
+/// "8, library length not C"
+pub const LIBRARY_LENGTH: u32 = 8;
+/// "9 number above 127"
+pub const ABOVE_127: u32 = 9;
+/// "10 not in the order"
+pub const NOT_IN_ORDER: u32 = 10;
+/// "11 already started"
+pub const ALREADY_STARTED: u32 = 11;
+/// "12 held back"
+pub const BLOCKED: u32 = 12;
+/// "13 not started"
+pub const NOT_STARTED: u32 = 13;
+/// "14 at its end"
+pub const AT_ITS_END: u32 = 14;
+/// "15 not at its end"
+pub const NOT_AT_ITS_END: u32 = 15;
+/// "16 entry not below C"
+pub const NO_SUCH_LOCATION: u32 = 16;
+
+/// "128 records"
+pub const RECORDS: usize = 128;
+/// "a mode per entry (...; always 0 from C to 63)"
+pub const MODES: usize = 64;
+
+pub const NEVER_MADE: u8 = 0;
+pub const WAITING: u8 = 1;
+pub const STARTED: u8 = 2;
+pub const ENDED: u8 = 3;
+
+pub const NONE: u8 = 0;
+pub const READ: u8 = 1;
+pub const WRITE: u8 = 2;
+
+/// "A record has: state (...), sheet, place, four registers, a mode per entry (...), instructions
+/// done, fault, weight."
+#[derive(Clone, Debug, PartialEq, Eq)]
+pub struct Record {
+    pub state: u8,
+    pub body: usize,
+    pub pc: usize,
+    pub registers: [u32; 4],
+    pub modes: [u8; MODES],
+    pub steps: u64,
+    pub fault: u8,
+    pub weight: u64,
+}
+
+/// "An open run also has the accepted list, the entries, calls accepted, weight, and the order:
+/// unended jobs, front to back".
+#[derive(Clone, Debug, PartialEq, Eq)]
+pub struct Run {
+    pub list: TaskList,
+    pub memory: Vec<u32>,
+    pub calls: u64,
+    pub weight: u64,
+    pub order: Vec<usize>,
+    pub records: Vec<Record>,
+}
+
+/// "Never made: all zero."
+pub fn never_made() -> Record {
+    Record {
+        state: NEVER_MADE,
+        body: 0,
+        pc: 0,
+        registers: [0; 4],
+        modes: [NONE; MODES],
+        steps: 0,
+        fault: 0,
+        weight: 0,
+    }
+}
+
+/// "Open and hand run: as check, then 8, library length not C."
+pub fn open(bytes: &[u8], library: &[u32]) -> Result<Run, u32> {
+    let list = decode(bytes)?;
+    if library.len() != list.locations {
+        return Err(LIBRARY_LENGTH);
+    }
+    Ok(fresh_run(list, library))
+}
+
+/// "A fresh run is what open gives when it accepts: the library's numbers as the entries, job 0 alone
+/// in the order, all other records zero, calls and weight 0."
+fn fresh_run(list: TaskList, library: &[u32]) -> Run {
+    let mut records = Vec::new();
+    for _ in 0..RECORDS {
+        records.push(never_made());
+    }
+    // "Job 0 runs sheet 0 with zero registers, every entry in mode write."
+    records[0].state = WAITING;
+    for location in 0..list.locations {
+        records[0].modes[location] = WRITE;
+    }
+    Run {
+        list,
+        memory: library.to_vec(),
+        calls: 0,
+        weight: 0,
+        order: vec![0],
+        records,
+    }
+}
+
+/// "The queue of an entry is the order with only the jobs whose mode there isn't 0."
+pub fn queue_of(run: &Run, location: usize) -> Vec<usize> {
+    let mut queue = Vec::new();
+    for task in &run.order {
+        if run.records[*task].modes[location] != NONE {
+            queue.push(*task);
+        }
+    }
+    queue
+}
+
+/// The jobs ahead of this one in the queue of an entry.
+fn ahead_of(run: &Run, task: usize, location: usize) -> Vec<usize> {
+    let mut ahead = Vec::new();
+    for other in queue_of(run, location) {
+        if other == task {
+            break;
+        }
+        ahead.push(other);
+    }
+    ahead
+}
+
+/// "A job may read an entry when all ahead of it in that queue have mode 1."
+pub fn may_read(run: &Run, task: usize, location: usize) -> bool {
+    for other in ahead_of(run, task, location) {
+        if run.records[other].modes[location] != READ {
+            return false;
+        }
+    }
+    true
+}
+
+/// "It may write when none is ahead."
+pub fn may_write(run: &Run, task: usize, location: usize) -> bool {
+    ahead_of(run, task, location).is_empty()
+}
+
+/// "What the job's own mode there allows": reading in mode 1, writing in mode 2.
+fn may_use_own_mode(run: &Run, task: usize, location: usize) -> bool {
+    match run.records[task].modes[location] {
+        NONE => true,
+        READ => may_read(run, task, location),
+        _ => may_write(run, task, location),
+    }
+}
+
+/// The job's mode at the entry of this number; "C and above included" have none.
+fn mode_at(run: &Run, task: usize, number: u32) -> u8 {
+    if number as usize >= run.list.locations {
+        return NONE;
+    }
+    run.records[task].modes[number as usize]
+}
+
+fn in_order(run: &Run, task: usize) -> bool {
+    run.order.contains(&task)
+}
+
+/// "at the end of its sheet or after a fault"
+pub fn at_its_end(run: &Run, task: usize) -> bool {
+    let record = &run.records[task];
+    record.pc == run.list.bodies[record.body].len() || record.fault != 0
+}
+
+/// The instruction at the job's place; only asked when the job is not at its end.
+fn instruction_at(run: &Run, task: usize) -> Instruction {
+    let record = &run.records[task];
+    run.list.bodies[record.body][record.pc]
+}
+
+/// "Each accepted call adds 1 to calls and its weight to record and run".
+fn count_call(run: &mut Run, task: usize, weight: u64) {
+    run.calls += 1;
+    run.weight += weight;
+    run.records[task].weight += weight;
+}
+
+/// "start 5, end 2, codes 0 to 8: 1, 1, 1, 1, 3, 4, 1, 8, 1"
+const START_WEIGHT: u64 = 5;
+const END_WEIGHT: u64 = 2;
+fn step_weight(instruction: &Instruction) -> u64 {
+    match instruction {
+        Instruction::Const { .. } => 1,
+        Instruction::Add { .. } => 1,
+        Instruction::Sub { .. } => 1,
+        Instruction::Less { .. } => 1,
+        Instruction::Load { .. } => 3,
+        Instruction::Store { .. } => 4,
+        Instruction::Skip { .. } => 1,
+        Instruction::Spawn { .. } => 8,
+        Instruction::Wait { .. } => 1,
+    }
+}
+
+/// "Start: 9 number above 127; 10 not in the order; 11 already started; 12 held back."
+pub fn refusal_of_start(run: &Run, number: u32) -> Option<u32> {
+    if number > 127 {
+        return Some(ABOVE_127);
+    }
+    let task = number as usize;
+    if !in_order(run, task) {
+        return Some(NOT_IN_ORDER);
+    }
+    if run.records[task].state == STARTED {
+        return Some(ALREADY_STARTED);
+    }
+    if !start_may_go(run, task) {
+        return Some(BLOCKED);
+    }
+    None
+}
+
+/// "Start: the job may read each entry of mode 1 and write each of mode 2".
+fn start_may_go(run: &Run, task: usize) -> bool {
+    for location in 0..run.list.locations {
+        if !may_use_own_mode(run, task, location) {
+            return false;
+        }
+    }
+    true
+}
+
+/// "Start: ...; its state becomes 2."
+pub fn start(run: &mut Run, number: u32) -> Result<(), u32> {
+    if let Some(refusal) = refusal_of_start(run, number) {
+        return Err(refusal);
+    }
+    let task = number as usize;
+    run.records[task].state = STARTED;
+    count_call(run, task, START_WEIGHT);
+    Ok(())
+}
+
+/// "Step: 9; 10; 13 not started; 14 at its end; 12." "Faults come before waiting."
+pub fn refusal_of_step(run: &Run, number: u32) -> Option<u32> {
+    if number > 127 {
+        return Some(ABOVE_127);
+    }
+    let task = number as usize;
+    if !in_order(run, task) {
+        return Some(NOT_IN_ORDER);
+    }
+    if run.records[task].state != STARTED {
+        return Some(NOT_STARTED);
+    }
+    if at_its_end(run, task) {
+        return Some(AT_ITS_END);
+    }
+    let instruction = instruction_at(run, task);
+    if fault_of(run, task, &instruction) == 0 && !step_may_go(run, task, &instruction) {
+        return Some(BLOCKED);
+    }
+    None
+}
+
+/// "Load needs reading, store needs writing, wait needs what the job's own mode there allows. Const,
+/// add, sub, less, skip and spawn never wait." Only asked when the step has no fault.
+fn step_may_go(run: &Run, task: usize, instruction: &Instruction) -> bool {
+    let registers = run.records[task].registers;
+    match instruction {
+        Instruction::Load { b, .. } => may_read(run, task, registers[*b as usize] as usize),
+        Instruction::Store { a, .. } => may_write(run, task, registers[*a as usize] as usize),
+        Instruction::Wait { a } => may_use_own_mode(run, task, registers[*a as usize] as usize),
+        _ => true,
+    }
+}
+
+/// The fault of a step, 0 if it has none. "1: entry not in the job's footprint (C and above
+/// included). 2: store, or a write line, where its own mode is read. 3: a footprint names an entry
+/// twice, in any modes."
+fn fault_of(run: &Run, task: usize, instruction: &Instruction) -> u8 {
+    let registers = run.records[task].registers;
+    match instruction {
+        Instruction::Load { b, .. } => fault_of_use(run, task, registers[*b as usize], false),
+        Instruction::Store { a, .. } => fault_of_use(run, task, registers[*a as usize], true),
+        Instruction::Wait { a } => fault_of_use(run, task, registers[*a as usize], false),
+        Instruction::Spawn { footprint, .. } => fault_of_spawn(run, task, *footprint as usize),
+        _ => 0,
+    }
+}
+
+/// Faults 1 and 2, in this order, for one entry.
+fn fault_of_use(run: &Run, task: usize, number: u32, writes: bool) -> u8 {
+    let own = mode_at(run, task, number);
+    if own == NONE {
+        return 1;
+    }
+    if writes && own == READ {
+        return 2;
+    }
+    0
+}
+
+/// "Lines are tested in turn: 1, 2, then 3 against earlier lines."
+fn fault_of_spawn(run: &Run, task: usize, footprint: usize) -> u8 {
+    let registers = run.records[task].registers;
+    let mut earlier: Vec<u32> = Vec::new();
+    for line in &run.list.footprints[footprint] {
+        let number = line_location(line, &registers);
+        let fault = fault_of_use(run, task, number, line_mode(line) == WRITE);
+        if fault != 0 {
+            return fault;
+        }
+        if earlier.contains(&number) {
+            return 3;
+        }
+        earlier.push(number);
+    }
+    0
+}
+
+/// "Kind 0 reads and 1 writes entry `value`; 2 reads and 3 writes the entry whose number is in
+/// register `value`."
+fn line_location(line: &Line, registers: &[u32; 4]) -> u32 {
+    match line.kind {
+        0 | 1 => line.value as u32,
+        _ => registers[line.value as usize],
+    }
+}
+
+fn line_mode(line: &Line) -> u8 {
+    match line.kind {
+        0 | 2 => READ,
+        _ => WRITE,
+    }
+}
+
+/// "Step: one instruction; place rises by 1 plus what a skip passes over, instructions done by 1."
+pub fn step(run: &mut Run, number: u32) -> Result<(), u32> {
+    if let Some(refusal) = refusal_of_step(run, number) {
+        return Err(refusal);
+    }
+    let task = number as usize;
+    let instruction = instruction_at(run, task);
+    let fault = fault_of(run, task, &instruction);
+    // "A faulting step is accepted, counts and weighs; done rises"
+    count_call(run, task, step_weight(&instruction));
+    run.records[task].steps += 1;
+    if fault != 0 {
+        // "but no place, register, entry or other job changes, and the job is then at its end"
+        run.records[task].fault = fault;
+        return Ok(());
+    }
+    let registers = run.records[task].registers;
+    let value_of = |register: u8| registers[register as usize];
+    let mut passed_over = 0;
+    match instruction {
+        Instruction::Const { a, value } => {
+            run.records[task].registers[a as usize] = value as u32;
+        }
+        // "sums and differences are modulo 2^32"
+        Instruction::Add { a, b, c } => {
+            run.records[task].registers[a as usize] = value_of(b).wrapping_add(value_of(c));
+        }
+        Instruction::Sub { a, b, c } => {
+            run.records[task].registers[a as usize] = value_of(b).wrapping_sub(value_of(c));
+        }
+        Instruction::Less { a, b, c } => {
+            let less = if value_of(b) < value_of(c) { 1 } else { 0 };
+            run.records[task].registers[a as usize] = less;
+        }
+        Instruction::Load { a, b } => {
+            run.records[task].registers[a as usize] = run.memory[value_of(b) as usize];
+        }
+        Instruction::Store { a, b } => {
+            run.memory[value_of(a) as usize] = value_of(b);
+        }
+        Instruction::Skip { a, b } => {
+            if value_of(a) == 0 {
+                passed_over = b as usize;
+            }
+        }
+        Instruction::Spawn { body, footprint } => {
+            spawn(run, task, body as usize, footprint as usize);
+        }
+        Instruction::Wait { .. } => {}
+    }
+    run.records[task].pc += 1 + passed_over;
+    Ok(())
+}
+
+/// "Job n's spawn at place i makes job n + 1 + the counts of all spawns before i in that sheet."
+fn child_number(run: &Run, task: usize, pc: usize) -> usize {
+    let counts = task_counts(&run.list);
+    let mut number = task as u64 + 1;
+    for instruction in &run.list.bodies[run.records[task].body][..pc] {
+        if let Instruction::Spawn { body, .. } = instruction {
+            number += counts[*body as usize];
+        }
+    }
+    number as usize
+}
+
+/// "A spawn makes the new job waiting, at place 0, with its sheet, its footprint's modes and a copy of
+/// the registers, directly ahead of its spawner in the order." Called at the spawn's own place.
+fn spawn(run: &mut Run, task: usize, body: usize, footprint: usize) {
+    let child = child_number(run, task, run.records[task].pc);
+    let registers = run.records[task].registers;
+    let mut record = never_made();
+    record.state = WAITING;
+    record.body = body;
+    record.registers = registers;
+    for line in &run.list.footprints[footprint] {
+        record.modes[line_location(line, &registers) as usize] = line_mode(line);
+    }
+    run.records[child] = record;
+    let place_in_order = run.order.iter().position(|other| *other == task).unwrap();
+    run.order.insert(place_in_order, child);
+}
+
+/// "End: 9; 10; 13; 15 not at its end."
+pub fn refusal_of_end(run: &Run, number: u32) -> Option<u32> {
+    if number > 127 {
+        return Some(ABOVE_127);
+    }
+    let task = number as usize;
+    if !in_order(run, task) {
+        return Some(NOT_IN_ORDER);
+    }
+    if run.records[task].state != STARTED {
+        return Some(NOT_STARTED);
+    }
+    if !at_its_end(run, task) {
+        return Some(NOT_AT_ITS_END);
+    }
+    None
+}
+
+/// "End: at the end of its sheet or after a fault, the job leaves the order and its state becomes 3.
+/// Its children keep their places."
+pub fn end(run: &mut Run, number: u32) -> Result<(), u32> {
+    if let Some(refusal) = refusal_of_end(run, number) {
+        return Err(refusal);
+    }
+    let task = number as usize;
+    run.order.retain(|other| *other != task);
+    run.records[task].state = ENDED;
+    count_call(run, task, END_WEIGHT);
+    Ok(())
+}
+
+/// "Record gives one job's record." "Record: 9."
+pub fn record(run: &Run, number: u32) -> Result<Record, u32> {
+    if number > 127 {
+        return Err(ABOVE_127);
+    }
+    Ok(run.records[number as usize].clone())
+}
+
+/// "Queue writes, per job from the front, number + 256 × mode into 16-bit places."
+/// "Queue: 16 entry not below C; 17 lent slice too short."
+pub fn queue(run: &Run, location: u32, places: &mut [u16]) -> Result<usize, u32> {
+    if location as usize >= run.list.locations {
+        return Err(NO_SUCH_LOCATION);
+    }
+    let queue = queue_of(run, location as usize);
+    if places.len() < queue.len() {
+        return Err(SLICE_TOO_SHORT);
+    }
+    for (i, task) in queue.iter().enumerate() {
+        let mode = run.records[*task].modes[location as usize];
+        places[i] = *task as u16 + 256 * mode as u16;
+    }
+    Ok(queue.len())
+}
+
+/// "The hand run takes what open takes and makes the same calls from a fresh run in one order: job 0
+/// is run whole. The hand run gives the run with no job left."
+pub fn hand_run(bytes: &[u8], library: &[u32]) -> Result<Run, u32> {
+    let mut run = open(bytes, library)?;
+    run_whole(&mut run, 0);
+    Ok(run)
+}
+
+/// "A job is run whole thus: its start, its steps until it is at its end, and at each spawn the child
+/// is run whole before the next step; last its end call. A spawn that faults has no child."
+fn run_whole(run: &mut Run, task: usize) {
+    start(run, task as u32).expect("the hand run's start is accepted");
+    while !at_its_end(run, task) {
+        let instruction = instruction_at(run, task);
+        let child = child_number(run, task, run.records[task].pc);
+        step(run, task as u32).expect("the hand run's step is accepted");
+        let faulted = run.records[task].fault != 0;
+        if matches!(instruction, Instruction::Spawn { .. }) && !faulted {
+            run_whole(run, child);
+        }
+    }
+    end(run, task as u32).expect("the hand run's end is accepted");
+}

@@ -1,0 +1,503 @@
+//! Every example of document 01, "Publishing examples", and single sentences with a number in them.
+
+use second::cases::{doubling_list, library_bytes, EXAMPLE_P};
+use second::run::{may_read, never_made, ENDED, STARTED, WAITING};
+use second::*;
+
+const LIBRARY: [u32; 2] = [5, 7];
+
+fn queue_of(run: &Run, location: u32) -> Vec<u16> {
+    let mut places = [0; 128];
+    let count = queue(run, location, &mut places).unwrap();
+    places[..count].to_vec()
+}
+
+fn spawn(body: u8, footprint: u8) -> Instruction {
+    Instruction::Spawn { body, footprint }
+}
+
+fn constant(a: u8, value: u16) -> Instruction {
+    Instruction::Const { a, value }
+}
+
+fn read(value: u8) -> Line {
+    Line { kind: 0, value }
+}
+
+fn write_line(value: u8) -> Line {
+    Line { kind: 1, value }
+}
+
+/// The bytes of a list with these parts.
+fn list(locations: usize, footprints: &[&[Line]], bodies: &[&[Instruction]]) -> Vec<u8> {
+    encode(&TaskList {
+        locations,
+        footprints: footprints.iter().map(|lines| lines.to_vec()).collect(),
+        bodies: bodies.iter().map(|body| body.to_vec()).collect(),
+    })
+}
+
+/// Start, then as many steps.
+fn start_and_step(run: &mut Run, task: u32, steps: usize) {
+    assert_eq!(start(run, task), Ok(()));
+    for _ in 0..steps {
+        assert_eq!(step(run, task), Ok(()));
+    }
+}
+
+#[test]
+fn p_has_54_bytes_and_three_jobs() {
+    let p = list(
+        2,
+        &[&[write_line(0)], &[read(0), write_line(1)]],
+        &[
+            &[spawn(1, 0), spawn(2, 1)],
+            &[constant(1, 9), Instruction::Store { a: 0, b: 1 }],
+            &[
+                Instruction::Load { a: 1, b: 0 },
+                constant(2, 1),
+                Instruction::Store { a: 2, b: 1 },
+            ],
+        ],
+    );
+    assert_eq!(p.len(), 54);
+    assert_eq!(p, EXAMPLE_P);
+    assert_eq!(check(&EXAMPLE_P), Ok(3));
+}
+
+#[test]
+fn p_hand_run() {
+    let run = hand_run(&EXAMPLE_P, &LIBRARY).unwrap();
+    assert_eq!(run.memory, [9, 9]);
+    assert_eq!(run.calls, 13);
+    assert_eq!(run.weight, 50);
+    assert!(run.order.is_empty());
+    for task in 0..3 {
+        assert_eq!(record(&run, task).unwrap().state, ENDED);
+    }
+    for task in 3..128 {
+        assert_eq!(record(&run, task).unwrap(), never_made());
+    }
+    assert_eq!(record(&run, 128), Err(9));
+    // 5 + 8 + 8 + 2, 5 + 1 + 4 + 2, 5 + 3 + 1 + 4 + 2
+    let weights: Vec<u64> = (0..3).map(|task| run.records[task].weight).collect();
+    assert_eq!(weights, [23, 12, 15]);
+}
+
+#[test]
+fn p_orders_and_queues() {
+    let mut run = open(&EXAMPLE_P, &LIBRARY).unwrap();
+    assert_eq!(run.order, [0]);
+    assert_eq!(run.records[0].state, WAITING);
+    start_and_step(&mut run, 0, 2);
+    assert_eq!(run.order, [1, 2, 0]);
+    assert_eq!(queue_of(&run, 0), [513, 258, 512]);
+    assert_eq!(queue_of(&run, 1), [514, 512]);
+    assert_eq!((run.calls, run.weight), (3, 21));
+
+    let before = run.clone();
+    assert_eq!(start(&mut run, 2), Err(12));
+    assert_eq!(run, before);
+    assert_eq!(start(&mut run, 1), Ok(()));
+    assert_eq!(end(&mut run, 0), Ok(()));
+    // "Its children keep their places."
+    assert_eq!(run.order, [1, 2]);
+}
+
+#[test]
+fn queue_refusals() {
+    let mut run = open(&EXAMPLE_P, &LIBRARY).unwrap();
+    start_and_step(&mut run, 0, 2);
+    let mut places = [7u16; 2];
+    assert_eq!(queue(&run, 2, &mut places), Err(16));
+    assert_eq!(queue(&run, u32::MAX, &mut []), Err(16));
+    assert_eq!(queue(&run, 0, &mut places), Err(17));
+    assert_eq!(places, [7, 7]);
+    let mut places = [7u16; 4];
+    assert_eq!(queue(&run, 0, &mut places), Ok(3));
+    assert_eq!(places, [513, 258, 512, 7]);
+}
+
+#[test]
+fn two_readers_start_beside_each_other() {
+    let bytes = list(
+        1,
+        &[&[read(0)]],
+        &[
+            &[
+                spawn(1, 0),
+                spawn(1, 0),
+                Instruction::Load { a: 1, b: 0 },
+                Instruction::Store { a: 0, b: 1 },
+            ],
+            &[],
+        ],
+    );
+    let mut run = open(&bytes, &[5]).unwrap();
+    start_and_step(&mut run, 0, 2);
+    assert_eq!(start(&mut run, 2), Ok(()));
+    assert_eq!(start(&mut run, 1), Ok(()));
+    assert!(may_read(&run, 0, 0));
+    assert_eq!(step(&mut run, 0), Ok(()));
+    assert_eq!(run.records[0].registers, [0, 5, 0, 0]);
+    assert_eq!(step(&mut run, 0), Err(12));
+    assert_eq!(end(&mut run, 1), Ok(()));
+    assert_eq!(step(&mut run, 0), Err(12));
+    assert_eq!(end(&mut run, 2), Ok(()));
+    assert_eq!(step(&mut run, 0), Ok(()));
+}
+
+#[test]
+fn a_writer_does_not_pass_a_reader() {
+    let bytes = list(
+        1,
+        &[&[read(0)], &[write_line(0)]],
+        &[&[spawn(1, 0), spawn(1, 1), spawn(1, 0)], &[]],
+    );
+    let mut run = open(&bytes, &[5]).unwrap();
+    start_and_step(&mut run, 0, 3);
+    assert_eq!(run.order, [1, 2, 3, 0]);
+    assert_eq!(start(&mut run, 1), Ok(()));
+    assert_eq!(start(&mut run, 2), Err(12));
+    assert_eq!(start(&mut run, 3), Err(12));
+    assert_eq!(end(&mut run, 1), Ok(()));
+    assert_eq!(start(&mut run, 2), Ok(()));
+    assert_eq!(start(&mut run, 3), Err(12));
+}
+
+#[test]
+fn store_to_a_read_entry_is_fault_2() {
+    let bytes = list(
+        1,
+        &[&[read(0)]],
+        &[
+            &[spawn(1, 0), spawn(1, 0)],
+            &[constant(1, 9), Instruction::Store { a: 0, b: 1 }],
+        ],
+    );
+    let mut run = open(&bytes, &[5]).unwrap();
+    start_and_step(&mut run, 0, 2);
+    // Job 2 is behind the reader 1: the fault comes before waiting.
+    start_and_step(&mut run, 2, 2);
+    let record = record(&run, 2).unwrap();
+    assert_eq!(
+        (record.fault, record.pc, record.steps, record.weight),
+        (2, 1, 2, 10)
+    );
+    assert_eq!(run.memory, [5]);
+    assert_eq!(run.order, [1, 2, 0]);
+    assert_eq!(step(&mut run, 2), Err(14));
+    assert_eq!(end(&mut run, 2), Ok(()));
+}
+
+#[test]
+fn load_at_c_is_fault_1() {
+    for number in [2, 63, 64, 65535] {
+        let bytes = list(
+            2,
+            &[],
+            &[&[constant(0, number), Instruction::Load { a: 1, b: 0 }]],
+        );
+        let run = hand_run(&bytes, &LIBRARY).unwrap();
+        let record = record(&run, 0).unwrap();
+        assert_eq!((record.fault, record.pc, record.steps), (1, 1, 2));
+        assert_eq!(record.registers, [number as u32, 0, 0, 0]);
+        assert_eq!((run.calls, run.weight), (4, 11));
+    }
+}
+
+#[test]
+fn an_entry_named_twice_is_fault_3() {
+    for lines in [
+        [read(0), read(0)],
+        [read(0), write_line(0)],
+        [write_line(0), write_line(0)],
+    ] {
+        let bytes = list(2, &[&lines], &[&[spawn(1, 0), constant(0, 1)], &[]]);
+        let mut run = open(&bytes, &LIBRARY).unwrap();
+        start_and_step(&mut run, 0, 1);
+        assert_eq!(run.records[0].fault, 3);
+        assert_eq!(run.order, [0]);
+        assert_eq!(run.records[1], never_made());
+        let run = hand_run(&bytes, &LIBRARY).unwrap();
+        assert_eq!((run.calls, run.weight), (3, 15));
+        assert_eq!(run.records[1], never_made());
+    }
+}
+
+#[test]
+fn lines_are_tested_in_turn() {
+    let by_register = Line { kind: 2, value: 0 };
+    let cases: [(&[Line], u8); 5] = [
+        // Own mode of the spawner: read 0, none at 1.
+        (&[read(0), write_line(0)], 2),
+        (&[read(0), read(0), read(1)], 3),
+        (&[read(1), write_line(0)], 1),
+        (&[read(0), by_register], 3),
+        (&[by_register], 0),
+    ];
+    for (lines, fault) in cases {
+        let bytes = list(
+            2,
+            &[&[read(0)], lines],
+            &[&[spawn(1, 0)], &[spawn(2, 1)], &[]],
+        );
+        let run = hand_run(&bytes, &LIBRARY).unwrap();
+        assert_eq!(run.records[1].fault, fault);
+        assert_eq!(run.records[2].state, if fault == 0 { ENDED } else { 0 });
+    }
+}
+
+#[test]
+fn a_child_copies_registers_and_modes() {
+    let by_register = Line { kind: 3, value: 1 };
+    let bytes = list(
+        3,
+        &[&[read(0), by_register]],
+        &[
+            &[constant(1, 2), constant(3, 8), spawn(1, 0), constant(3, 9)],
+            &[],
+        ],
+    );
+    let mut run = open(&bytes, &[5, 6, 7]).unwrap();
+    start_and_step(&mut run, 0, 4);
+    let mut child = never_made();
+    child.state = WAITING;
+    child.body = 1;
+    child.registers = [0, 2, 0, 8];
+    child.modes[0] = 1;
+    child.modes[2] = 2;
+    assert_eq!(record(&run, 1).unwrap(), child);
+    assert_eq!(run.records[0].registers, [0, 2, 0, 9]);
+    // The record keeps all but the state when the job ends.
+    assert_eq!(start(&mut run, 1), Ok(()));
+    assert_eq!(end(&mut run, 1), Ok(()));
+    child.state = ENDED;
+    child.weight = 7;
+    assert_eq!(record(&run, 1).unwrap(), child);
+}
+
+#[test]
+fn wait_follows_the_own_mode() {
+    let wait = Instruction::Wait { a: 0 };
+    // A job of mode write waits for the reader ahead; a job of mode read doesn't.
+    let bytes = list(
+        1,
+        &[&[read(0)]],
+        &[
+            &[spawn(1, 0), spawn(2, 0), wait],
+            &[],
+            &[wait, constant(0, 1), wait],
+        ],
+    );
+    let mut run = open(&bytes, &[5]).unwrap();
+    start_and_step(&mut run, 0, 2);
+    assert_eq!(step(&mut run, 0), Err(12));
+    start_and_step(&mut run, 2, 3);
+    let record = record(&run, 2).unwrap();
+    assert_eq!((record.fault, record.weight), (1, 8));
+}
+
+#[test]
+fn empty_body_0() {
+    let bytes = list(1, &[], &[&[]]);
+    let mut run = open(&bytes, &[5]).unwrap();
+    assert_eq!(step(&mut run, 0), Err(13));
+    assert_eq!(end(&mut run, 0), Err(13));
+    assert_eq!(start(&mut run, 0), Ok(()));
+    assert_eq!(run.records[0].state, STARTED);
+    assert_eq!(start(&mut run, 0), Err(11));
+    assert_eq!(step(&mut run, 0), Err(14));
+    assert_eq!(end(&mut run, 0), Ok(()));
+    assert_eq!((run.calls, run.weight), (2, 7));
+    assert_eq!(run, hand_run(&bytes, &[5]).unwrap());
+    assert_eq!(start(&mut run, 0), Err(10));
+    assert_eq!(step(&mut run, 0), Err(10));
+    assert_eq!(end(&mut run, 0), Err(10));
+    assert_eq!(end(&mut run, 128), Err(9));
+}
+
+#[test]
+fn end_needs_the_end() {
+    let mut run = open(&EXAMPLE_P, &LIBRARY).unwrap();
+    start_and_step(&mut run, 0, 1);
+    assert_eq!(end(&mut run, 0), Err(15));
+}
+
+#[test]
+fn trees_of_127_128_and_129_jobs() {
+    assert_eq!(check(&encode(&doubling_list(0))), Ok(127));
+    assert_eq!(check(&encode(&doubling_list(1))), Ok(128));
+    assert_eq!(check(&encode(&doubling_list(2))), Err(7));
+    for more in 0..2 {
+        let run = hand_run(&encode(&doubling_list(more)), &[0]).unwrap();
+        for task in 0..128 {
+            let made = task < 127 + more;
+            assert_eq!(run.records[task].state, if made { ENDED } else { 0 });
+        }
+        // Each job but job 0 takes one spawn, one start and one end.
+        let children = 126 + more as u64;
+        assert_eq!(run.calls, children + 2 * (children + 1));
+        assert_eq!(run.weight, 8 * children + 7 * (children + 1));
+    }
+}
+
+#[test]
+fn job_numbers_count_spawns_passed_over() {
+    let bytes = list(
+        1,
+        &[&[]],
+        &[
+            &[Instruction::Skip { a: 0, b: 1 }, spawn(1, 0), spawn(1, 0)],
+            &[spawn(2, 0)],
+            &[],
+        ],
+    );
+    assert_eq!(check(&bytes), Ok(5));
+    let run = hand_run(&bytes, &[0]).unwrap();
+    let states: Vec<u8> = run.records[..5].iter().map(|record| record.state).collect();
+    assert_eq!(states, [3, 0, 0, 3, 3]);
+    assert_eq!((run.records[0].pc, run.records[0].steps), (3, 2));
+}
+
+#[test]
+fn numbers_wrap_and_compare_unsigned() {
+    let bytes = list(
+        1,
+        &[],
+        &[&[
+            constant(1, 1 + 256 * 2),
+            Instruction::Sub { a: 2, b: 0, c: 1 },
+            Instruction::Less { a: 3, b: 2, c: 1 },
+            Instruction::Less { a: 0, b: 1, c: 2 },
+            Instruction::Add { a: 2, b: 2, c: 1 },
+        ]],
+    );
+    let run = hand_run(&bytes, &[0]).unwrap();
+    assert_eq!(run.records[0].registers, [1, 513, 0, 0]);
+}
+
+#[test]
+fn check_examples() {
+    assert_eq!(check(&[]), Err(1));
+    // C = 64 passes, 65 gives 3.
+    assert_eq!(check(&[0x4A, 0x48, 64, 0, 1, 0x4A, 0x42, 0]), Ok(1));
+    assert_eq!(check(&[0x4A, 0x48, 65, 0, 1, 0x4A, 0x42, 0]), Err(3));
+    assert_eq!(check(&[0x4A, 0x48, 65]), Err(3));
+    assert_eq!(check(&[0x4A, 0x48, 64]), Err(1));
+    assert_eq!(check(&[0x4A]), Err(1));
+    assert_eq!(check(&[0x4B]), Err(1));
+    assert_eq!(check(&[0x4B, 0x48]), Err(2));
+    // A skip to the sheet's end passes, one further gives 5.
+    let skip = |b| vec![0x4A, 0x48, 1, 0, 1, 0x4A, 0x42, 2, 6, 0, b, 0, 0, 0, 0, 0];
+    assert_eq!(check(&skip(1)), Ok(1));
+    assert_eq!(check(&skip(2)), Err(5));
+    // Three bytes of a bad instruction: not whole.
+    assert_eq!(
+        check(&[0x4A, 0x48, 1, 0, 1, 0x4A, 0x42, 1, 9, 0, 0]),
+        Err(1)
+    );
+    assert_eq!(
+        check(&[0x4A, 0x48, 1, 0, 1, 0x4A, 0x42, 1, 9, 0, 0, 0]),
+        Err(5)
+    );
+    // Half a bad line: not whole.
+    assert_eq!(check(&[0x4A, 0x48, 1, 1, 1, 0x4A, 0x46, 1, 4]), Err(1));
+    assert_eq!(check(&[0x4A, 0x48, 1, 1, 1, 0x4A, 0x46, 1, 4, 0]), Err(4));
+    // 6 before 7.
+    let mut bytes = encode(&doubling_list(2));
+    bytes.push(0);
+    assert_eq!(check(&bytes), Err(6));
+    let mut bytes = EXAMPLE_P.to_vec();
+    bytes.push(0x4A);
+    assert_eq!(check(&bytes), Err(6));
+}
+
+#[test]
+fn the_longest_list_and_huge_counts() {
+    let line = [read(0); 8];
+    let mut bodies: Vec<Vec<Instruction>> = Vec::new();
+    for s in 0..31 {
+        bodies.push(vec![spawn(s + 1, 0); 32]);
+    }
+    bodies.push(vec![constant(0, 0); 32]);
+    let mut list = TaskList {
+        locations: 64,
+        footprints: vec![line.to_vec(); 32],
+        bodies,
+    };
+    assert_eq!(encode(&list).len(), 4805);
+    assert_eq!(check(&encode(&list)), Err(7));
+    // Only count(0) is limited.
+    list.bodies[0] = vec![constant(0, 0); 32];
+    assert_eq!(encode(&list).len(), 4805);
+    assert_eq!(check(&encode(&list)), Ok(1));
+    list.bodies[0][31] = spawn(31, 0);
+    assert_eq!(check(&encode(&list)), Ok(2));
+}
+
+#[test]
+fn open_and_hand_run_refusals() {
+    for library in [&[][..], &[5], &[5, 7, 9]] {
+        assert_eq!(open(&EXAMPLE_P, library), Err(8));
+        assert_eq!(hand_run(&EXAMPLE_P, library), Err(8));
+    }
+    assert_eq!(open(&EXAMPLE_P[..53], &[]), Err(1));
+    assert_eq!(hand_run(&EXAMPLE_P[..53], &[]), Err(1));
+}
+
+#[test]
+fn writer_refusal() {
+    let list = decode(&EXAMPLE_P).unwrap();
+    let mut buffer = [1u8; 53];
+    assert_eq!(write(&list, &mut buffer), Err(17));
+    assert_eq!(buffer, [1; 53]);
+    let mut buffer = [1u8; 55];
+    assert_eq!(write(&list, &mut buffer), Ok(54));
+    assert_eq!(buffer[..54], EXAMPLE_P);
+    assert_eq!(buffer[54], 1);
+}
+
+#[test]
+fn coordinator_lines() {
+    let library = library_bytes(&LIBRARY);
+    let input = [0x00, 0x00, 0x01, 0x00, 0x01, 0x00, 0x00, 0x02];
+    assert_eq!(
+        transcript(&EXAMPLE_P, &library, &input),
+        "0\n0\n0\n12\n5\n7\n3 21 3\n"
+    );
+    assert_eq!(transcript(&EXAMPLE_P, &library, &[]), "5\n7\n0 0 1\n");
+    // Another kind, a number above 127, half a call.
+    let input = [0x03, 0x00, 0xFF, 0xFF, 0x00, 0x80, 0x00];
+    assert_eq!(
+        transcript(&EXAMPLE_P, &library, &input),
+        "18\n18\n9\n18\n5\n7\n0 0 1\n"
+    );
+    assert_eq!(transcript(&[], &library, &input), "refused 1\n");
+    assert_eq!(transcript(&[], &[], &[]), "refused 1\n");
+    assert_eq!(transcript(&EXAMPLE_P, &library[..7], &input), "refused 8\n");
+    assert_eq!(transcript(&EXAMPLE_P, &[], &input), "refused 8\n");
+}
+
+#[test]
+fn preview_functions() {
+    let library = library_bytes(&LIBRARY);
+    assert_eq!(preview_check(&EXAMPLE_P), 3);
+    assert_eq!(preview_check(&[]), 129);
+    assert_eq!(preview_check(&encode(&doubling_list(1))), 128);
+    assert_eq!(preview_check(&encode(&doubling_list(2))), 135);
+    let mut result = [1u8; 9];
+    assert_eq!(preview_hand_run(&EXAMPLE_P, &library, &mut result), 0);
+    assert_eq!(result, [9, 0, 0, 0, 9, 0, 0, 0, 1]);
+    let mut result = [1u8; 7];
+    assert_eq!(preview_hand_run(&EXAMPLE_P, &library, &mut result), 145);
+    assert_eq!(
+        preview_hand_run(&EXAMPLE_P, &library[..7], &mut result),
+        136
+    );
+    assert_eq!(
+        preview_hand_run(&EXAMPLE_P[..53], &library[..7], &mut result),
+        129
+    );
+    assert_eq!(result, [1; 7]);
+}

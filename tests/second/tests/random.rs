@@ -1,0 +1,304 @@
+//! Random lists, libraries and orders of calls.
+
+use second::cases::*;
+use second::coordinator::call;
+use second::list::task_count;
+use second::rng::Rng;
+use second::run::{ENDED, RECORDS};
+use second::*;
+
+/// "Some call would be accepted when, for some number 0 to 127, its start, step or end on that run
+/// isn't refused."
+fn some_call_is_accepted(run: &Run) -> bool {
+    let mut copy = run.clone();
+    for task in 0..128 {
+        for kind in 0..3 {
+            if call(&mut copy, kind, task).is_ok() {
+                return true;
+            }
+        }
+    }
+    false
+}
+
+/// Demand 3 for the run after a list of calls of which `accepted` were accepted.
+fn assert_demand_3(run: &Run, hand: &Run, accepted: u64) {
+    if !run.order.is_empty() {
+        assert!(some_call_is_accepted(run));
+    }
+    for task in 0..RECORDS {
+        if run.records[task].state == ENDED {
+            assert_eq!(run.records[task], hand.records[task]);
+        }
+    }
+    assert_eq!(run.calls, accepted);
+    assert!(run.calls <= hand.calls);
+    if run.order.is_empty() {
+        assert_eq!(run.memory, hand.memory);
+        assert_eq!(run.records, hand.records);
+        assert_eq!(run.calls, hand.calls);
+        assert_eq!(run.weight, hand.weight);
+    }
+}
+
+/// What the random orders met.
+#[derive(Default)]
+struct Met {
+    start_refusals: [u64; 20],
+    step_refusals: [u64; 20],
+    end_refusals: [u64; 20],
+    faults: [u64; 4],
+    most_jobs: u64,
+    most_in_order: usize,
+}
+
+/// One random order of calls until no job is left, demand 3 after each accepted call.
+fn random_order(rng: &mut Rng, bytes: &[u8], library: &[u32], met: &mut Met) {
+    let strategy = rng.pick(&STRATEGIES);
+    let any_percent = rng.pick(&[0, 20, 60]);
+    let hand = hand_run(bytes, library).unwrap();
+    let mut run = open(bytes, library).unwrap();
+    let mut accepted = 0;
+    let mut last = 0;
+    assert_demand_3(&run, &hand, accepted);
+    while !run.order.is_empty() {
+        let (kind, task) = next_call(rng, strategy, &run, last, any_percent);
+        match call(&mut run, kind, task) {
+            Ok(()) => {
+                accepted += 1;
+                last = task;
+                assert_demand_3(&run, &hand, accepted);
+            }
+            Err(refusal) => {
+                let refusals = match kind {
+                    0 => &mut met.start_refusals,
+                    1 => &mut met.step_refusals,
+                    _ => &mut met.end_refusals,
+                };
+                refusals[refusal as usize] += 1;
+            }
+        }
+        met.most_in_order = met.most_in_order.max(run.order.len());
+    }
+    assert_eq!(run, hand);
+    let mut jobs = 0;
+    for record in &run.records {
+        met.faults[record.fault as usize] += (record.state == ENDED) as u64;
+        jobs += (record.state == ENDED) as u64;
+    }
+    met.most_jobs = met.most_jobs.max(jobs);
+}
+
+#[test]
+fn demand_3_on_random_lists() {
+    let mut met = Met::default();
+    for seed in 0..2000 {
+        let mut rng = Rng::new(seed);
+        let list = random_list(&mut rng);
+        let bytes = encode(&list);
+        let library = random_library(&mut rng, list.locations);
+        for _ in 0..2 {
+            random_order(&mut rng, &bytes, &library, &mut met);
+        }
+    }
+    // The cases reach every refusal, every fault and large trees.
+    for (refusals, expected) in [
+        (met.start_refusals, &[9, 10, 11, 12][..]),
+        (met.step_refusals, &[9, 10, 12, 13, 14]),
+        (met.end_refusals, &[9, 10, 13, 15]),
+    ] {
+        let reached: Vec<usize> = (0..20).filter(|refusal| refusals[*refusal] > 0).collect();
+        assert_eq!(reached, expected);
+    }
+    println!("step refusals {:?}", met.step_refusals);
+    println!("faults {:?}", met.faults);
+    println!(
+        "most jobs {}, most in order {}",
+        met.most_jobs, met.most_in_order
+    );
+    for fault in 0..4 {
+        assert!(met.faults[fault] > 100);
+    }
+    assert!(met.most_jobs > 100);
+    assert!(met.most_in_order > 50);
+}
+
+#[test]
+fn demand_3_on_the_doubling_trees() {
+    let mut met = Met::default();
+    for more in 0..2 {
+        let bytes = encode(&doubling_list(more));
+        for seed in 0..10 {
+            random_order(&mut Rng::new(seed), &bytes, &[0], &mut met);
+        }
+    }
+    assert_eq!(met.most_jobs, 128);
+}
+
+#[test]
+fn a_refusal_leaves_the_run_unchanged() {
+    for seed in 0..300 {
+        let mut rng = Rng::new(10_000 + seed);
+        let list = random_list(&mut rng);
+        let library = random_library(&mut rng, list.locations);
+        let mut run = open(&encode(&list), &library).unwrap();
+        let mut left = rng.below(60);
+        while left > 0 && !run.order.is_empty() {
+            left -= 1;
+            let (kind, task) = next_call(&mut rng, Strategy::Any, &run, 0, 0);
+            assert_eq!(call(&mut run, kind, task), Ok(()));
+        }
+        let before = run.clone();
+        let mut copy = run.clone();
+        let mut tasks: Vec<u32> = (0..130).collect();
+        tasks.extend([255, 256, u32::MAX]);
+        for task in tasks {
+            for kind in 0..3 {
+                match call(&mut copy, kind, task) {
+                    Ok(()) => {
+                        assert_eq!(copy.calls, before.calls + 1);
+                        copy = run.clone();
+                    }
+                    Err(refusal) => {
+                        assert!((9..16).contains(&refusal));
+                        assert_eq!(task > 127, refusal == 9);
+                        assert_eq!(copy, before);
+                    }
+                }
+            }
+        }
+    }
+}
+
+#[test]
+fn decode_and_encode_on_random_lists() {
+    let mut empty_bodies = 0;
+    let mut counts = [0u64; 129];
+    let mut longest = 0;
+    let mut huge = 0;
+    for seed in 0..3000 {
+        let mut rng = Rng::new(20_000 + seed);
+        let list = random_list(&mut rng);
+        let bytes = encode(&list);
+        let count = check(&bytes).unwrap();
+        assert_eq!(decode(&bytes).unwrap(), list);
+        let mut buffer = vec![0xEE; bytes.len() + 3];
+        assert_eq!(write(&list, &mut buffer), Ok(bytes.len()));
+        assert_eq!(buffer[..bytes.len()], bytes);
+        assert_eq!(buffer[bytes.len()..], [0xEE; 3]);
+        let mut buffer = vec![0xEE; bytes.len() - 1];
+        assert_eq!(write(&list, &mut buffer), Err(17));
+        assert!(buffer.iter().all(|byte| *byte == 0xEE));
+        counts[count as usize] += 1;
+        longest = longest.max(bytes.len());
+        empty_bodies += list.bodies.iter().filter(|body| body.is_empty()).count();
+        for s in 1..list.bodies.len() {
+            huge += (task_count(&list, s) > 1_000_000) as u64;
+        }
+    }
+    assert!(empty_bodies > 100);
+    assert_eq!(longest, 4805);
+    assert!(huge > 100);
+    assert!(counts[1] > 0 && counts[128] > 0);
+    assert!((100..129).map(|count| counts[count]).sum::<u64>() > 100);
+}
+
+#[test]
+fn damaged_lists() {
+    for seed in 0..60 {
+        let mut rng = Rng::new(30_000 + seed);
+        let bytes = encode(&random_list(&mut rng));
+        // A shorter part always gives 1, bytes left over always 6.
+        if bytes.len() < 1000 {
+            for cut in truncations(&bytes) {
+                assert_eq!(check(&cut), Err(1));
+            }
+        }
+        for altered in alterations(&mut rng, &bytes) {
+            match decode(&altered) {
+                Ok(list) => assert_eq!(encode(&list), altered),
+                Err(refusal) => assert!((1..8).contains(&refusal)),
+            }
+        }
+        let mut longer = bytes.clone();
+        longer.push(rng.byte());
+        assert_eq!(check(&longer), Err(6));
+    }
+}
+
+#[test]
+fn each_refusal_of_check_is_reached() {
+    for refusal in 1..8 {
+        for seed in 0..300 {
+            let bytes = damaged_list(&mut Rng::new(40_000 + seed), refusal);
+            assert_eq!(check(&bytes), Err(refusal));
+            assert_eq!(decode(&bytes), Err(refusal));
+            assert_eq!(open(&bytes, &[]), Err(refusal));
+            assert_eq!(hand_run(&bytes, &[]), Err(refusal));
+            assert_eq!(preview_check(&bytes), 128 + refusal);
+            assert_eq!(
+                transcript(&bytes, &[], &[0, 0]),
+                format!("refused {refusal}\n")
+            );
+        }
+    }
+}
+
+#[test]
+fn list_cases_reach_every_answer() {
+    let mut rng = Rng::new(1);
+    let mut answers = [0u64; 8];
+    for _ in 0..3000 {
+        let bytes = list_case(&mut rng);
+        match check(&bytes) {
+            Ok(_) => answers[0] += 1,
+            Err(refusal) => answers[refusal as usize] += 1,
+        }
+    }
+    println!("answers {answers:?}");
+    assert!(answers.iter().all(|count| *count > 50));
+    assert_eq!(list_case_line(&[]), " refused 1");
+    assert_eq!(
+        list_case_line(&[0x4A, 0x48, 1, 0, 1, 0x4A, 0x42, 0]),
+        "4a480100014a4200 ok 1"
+    );
+    // The same seed gives the same cases.
+    let first = list_case(&mut Rng::new(7));
+    assert_eq!(first, list_case(&mut Rng::new(7)));
+}
+
+#[test]
+fn transcripts_follow_the_calls() {
+    let mut half = 0;
+    for seed in 0..500 {
+        let mut rng = Rng::new(50_000 + seed);
+        let (jobs, library, input) = run_case(&mut rng);
+        let text = transcript(&jobs, &library, &input);
+        let lines: Vec<&str> = text.lines().collect();
+        assert!(text.ends_with('\n'));
+        if text.starts_with("refused") {
+            assert_eq!(lines.len(), 1);
+            continue;
+        }
+        let list = decode(&jobs).unwrap();
+        assert_eq!(lines.len(), (input.len() + 1) / 2 + list.locations + 1);
+        let answers = &lines[..(input.len() + 1) / 2];
+        half += input.len() % 2;
+        if input.len() % 2 == 1 {
+            assert_eq!(answers[answers.len() - 1], "18");
+        }
+        let accepted = answers.iter().filter(|answer| **answer == "0").count();
+        let last = lines[lines.len() - 1];
+        assert!(last.starts_with(&format!("{accepted} ")));
+        if last.ends_with(" 0") {
+            let mut result = vec![0; library.len()];
+            assert_eq!(preview_hand_run(&jobs, &library, &mut result), 0);
+            let entries: Vec<String> = result
+                .chunks(4)
+                .map(|bytes| u32::from_le_bytes(bytes.try_into().unwrap()).to_string())
+                .collect();
+            assert_eq!(lines[answers.len()..lines.len() - 1], entries);
+        }
+    }
+    assert!(half > 20);
+}

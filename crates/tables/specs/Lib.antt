@@ -1,0 +1,6 @@
+-- The definitions that the promises of this crate cite.
+pub mod Places
+pub mod Rows
+pub mod Ahead
+pub mod Grants
+pub mod Numbers

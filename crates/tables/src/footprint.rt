@@ -1,0 +1,130 @@
+// What a footprint gives a spawned task, line by line.
+ghost use mathlib.Core.Path.{_≡_};
+ghost use lib.ListN.{getD};
+ghost use Rattle.tasklist.specs.TaskList.{footprint-of};
+ghost use Rattle.tasklist.specs.Tables.{list-of};
+ghost use Rattle.semantics.specs.Access.{access-fault};
+ghost use Rattle.semantics.specs.Footprint.{twice, first-fault, child-modes};
+ghost use Rattle.tables.specs.Grants.{named-location, named-mode, spawner, grant-of};
+use crate::Grant;
+use crate::Granting;
+use crate::modes::mode_in;
+use crate::modes::with_mode;
+use crate::search::wide;
+use tasklist::Line;
+use tasklist::Tables;
+use tasklist::footprint_size;
+use tasklist::line_at;
+
+// A register's number as an index.
+pub fn widened(x: u32) -> usize
+    ensures { λ r. ⌜ r ≡ x ⌝ }
+{
+    x as usize
+}
+
+// The value of register `r`, 0 where there is none.
+pub fn register_at(registers: [u32; 4], r: u8) -> u32
+    ensures { λ v. ⌜ v ≡ getD registers r 0 ⌝ }
+{
+    let i = wide(r);
+    if i < 4 { registers[i] } else { 0 }
+}
+
+// The fault of an access by the task's own mode there, 0 for none.
+pub fn access_fault(own: u8, asked: u8) -> u8
+    ensures { λ r. ⌜ r ≡ access-fault own asked ⌝ }
+{
+    if 2 < asked {
+        return 1;
+    }
+    if own == 1 {
+        if asked == 2 {
+            return 2;
+        }
+        return 0;
+    }
+    if own == 2 {
+        return 0;
+    }
+    1
+}
+
+// The location that a line names.
+fn location_of(line: Line, registers: [u32; 4]) -> usize
+    ensures { λ r. ⌜ r ≡ named-location registers line ⌝ }
+{
+    let kind = line.kind;
+    let value = line.value;
+    if kind < 2 {
+        return wide(value);
+    }
+    if kind < 4 {
+        return widened(register_at(registers, value));
+    }
+    0
+}
+
+// The mode that a line asks for.
+fn mode_of(line: Line) -> u8
+    ensures { λ r. ⌜ r ≡ named-mode line ⌝ }
+{
+    let kind = line.kind;
+    if kind == 0 {
+        return 1;
+    }
+    if kind == 1 {
+        return 2;
+    }
+    if kind == 2 {
+        return 1;
+    }
+    if kind == 3 {
+        return 2;
+    }
+    0
+}
+
+// The fault of a line, 0 for none: of its access, then of a location that an earlier line names.
+fn line_fault(own: u8, asked: u8, earlier: u8) -> u8
+    ensures { λ r. ⌜ r ≡ first-fault (access-fault own asked) (twice earlier) ⌝ }
+{
+    let fault = access_fault(own, asked);
+    if fault != 0 {
+        return fault;
+    }
+    if earlier != 0 {
+        return 3;
+    }
+    0
+}
+
+// The modes that a footprint gives a child of a task with these registers and modes, or the fault of the spawn.
+pub fn granted(tables: Tables, footprint: usize, registers: [u32; 4], own: [u8; 64]) -> Granting
+    ensures { λ r. ⌜ grant-of r ≡ child-modes (spawner registers own) (footprint-of (list-of tables) footprint) ⌝ }
+{
+    let size = footprint_size(tables, footprint);
+    let mut modes = [0u8; 64];
+    let mut j = 0;
+    while j < size {
+        let line = line_at(tables, footprint, j);
+        let location = location_of(line, registers);
+        let asked = mode_of(line);
+        let mine = mode_in(own, location);
+        let earlier = mode_in(modes, location);
+        let fault = line_fault(mine, asked, earlier);
+        if fault != 0 {
+            return Granting {
+                grant: Grant::Denied(fault),
+                modes,
+            };
+        }
+        let more = with_mode(modes, location, asked);
+        modes = more;
+        j += 1;
+    }
+    Granting {
+        grant: Grant::Granted,
+        modes,
+    }
+}

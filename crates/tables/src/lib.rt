@@ -1,0 +1,43 @@
+// Leaf operations on the runtime's arrays, each proved against one equation over lists: places in the order, rows of the
+// table of modes, the search of the tasks ahead, a footprint's modes, and a child's number.
+
+// The place of a task among those in the order.
+pub enum Place {
+    At(usize),
+    Absent,
+}
+
+// Whether a footprint's modes are granted, or the fault of the spawn.
+pub enum Grant {
+    Denied(u8),
+    Granted,
+}
+
+// What a footprint gives: where it is granted, the child's modes.
+pub struct Granting {
+    pub grant: Grant,
+    pub modes: [u8; 64],
+}
+
+mod footprint;
+mod modes;
+mod number;
+mod order;
+mod search;
+
+pub use footprint::access_fault;
+pub use footprint::granted;
+pub use footprint::register_at;
+pub use modes::mode_at;
+pub use modes::mode_in;
+pub use modes::row_of;
+pub use modes::with_mode;
+pub use modes::with_row;
+pub use number::child_number;
+pub use order::inserted;
+pub use order::position;
+pub use order::removed;
+pub use search::blocked;
+pub use search::held;
+pub use search::passable;
+pub use search::wanted_at;

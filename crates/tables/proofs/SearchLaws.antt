@@ -123,23 +123,23 @@ module _ (test : Access → Bool) (wanted : List ℕ) where
   unfolding Wanted needs-from
   wanted-skip i h z e = rw (add-one i) (e ∙ ap (λ l. every test (needs-from i l)) (opened i 0 h z))
 
-  pub wanted-next : (i m : ℕ) → i < length wanted → getD wanted i 0 ≡ m → m ≢ 0 → false ≡ not (test (access i m)) → Wanted i → Wanted (i + 1)
+  pub wanted-next : (i m : ℕ) → i < length wanted → getD wanted i 0 ≡ m → m ≢ 0 → (flag : Bool) → flag ≡ false → flag ≡ not (test (access i m)) → Wanted i → Wanted (i + 1)
   unfolding Wanted needs-from every
-  wanted-next i zero h q z t e = absurd (z refl)
-  wanted-next i (suc m) h q z t e =
-      rw (add-one i) (e ∙ ap (λ l. every test (needs-from i l)) (opened i (suc m) h q) ∙ (rw (passed (test (access i (suc m))) t) refl))
+  wanted-next i zero h q z flag b t e = absurd (z refl)
+  wanted-next i (suc m) h q z flag b t e =
+      rw (add-one i) (e ∙ ap (λ l. every test (needs-from i l)) (opened i (suc m) h q) ∙ (rw (passed (test (access i (suc m))) (sym b ∙ t)) refl))
     where
       passed : (b : Bool) → false ≡ not b → b ≡ true
       passed true p = refl
       passed false p = p
 
-  pub wanted-fails : (i m : ℕ) → i < length wanted → getD wanted i 0 ≡ m → m ≢ 0 → true ≡ not (test (access i m)) → Wanted i
+  pub wanted-fails : (i m : ℕ) → i < length wanted → getD wanted i 0 ≡ m → m ≢ 0 → (flag : Bool) → flag ≡ true → flag ≡ not (test (access i m)) → Wanted i
       → true ≡ not (every test (needs-from 0 wanted))
   unfolding Wanted needs-from every
-  wanted-fails i zero h q z t e = absurd (z refl)
-  wanted-fails i (suc m) h q z t e =
+  wanted-fails i zero h q z flag b t e = absurd (z refl)
+  wanted-fails i (suc m) h q z flag b t e =
       let d : every test (needs-from 0 wanted) ≡ false =
-      e ∙ ap (λ l. every test (needs-from i l)) (opened i (suc m) h q) ∙ (rw (failed (test (access i (suc m))) t) refl) in
+      e ∙ ap (λ l. every test (needs-from i l)) (opened i (suc m) h q) ∙ (rw (failed (test (access i (suc m))) (sym b ∙ t)) refl) in
       ap not (sym d)
     where
       failed : (b : Bool) → true ≡ not b → b ≡ false

@@ -1,7 +1,7 @@
 -- The accesses at the first locations are free.
 -- Assumes nothing.
 use Prim.Native.Nat.{_-_, _≤_}
-use mathlib.Core.Path.{_≡_, refl, sym, _∙_}
+use mathlib.Core.Path.{_≡_, refl}
 use lib.ListN.{length, take, getD}
 use native.Mathlib.Omega.{arith}
 use Rattle.tables.specs.Ahead.{clear}
@@ -47,7 +47,7 @@ returns c =
     let a = c .before .before .before .before .before .args in
     let at = c .before .before .before .before .loop in
     wanted-fails (clear (a .modes .now) (take (a .at) (a .order .now))) (a .t4) (at .location) (getD (a .t4) (at .location) 0) (omega arith) refl (c .before .before .if1 .left)
-    (sym (c .if2 .taken) ∙ c .before .held .ensures len rows) (at .inv .2 len rows)
+    (c .before .held .result) (c .if2 .taken) (c .before .held .ensures len rows) (at .inv .2 len rows)
 
 add-location-2 : tie.Need-add-location-2 Inv-loop μ-loop
 add-location-2 c = search needs
@@ -63,7 +63,7 @@ loop-again-2 c =
       search needs,
       λ len rows.
           wanted-next (clear (a .modes .now) (take (a .at) (a .order .now))) (a .t4) (at .location) (getD (a .t4) (at .location) 0) (omega arith) refl (c .before .before .if1 .left)
-          (sym (c .if2 .left) ∙ c .before .held .ensures len rows) (at .inv .2 len rows),
+          (c .before .held .result) (c .if2 .left) (c .before .held .ensures len rows) (at .inv .2 len rows),
     )
 
 returns-2 : tie.Need-returns-2 Inv-loop μ-loop

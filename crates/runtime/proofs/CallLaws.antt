@@ -1,0 +1,361 @@
+-- What is decided of a call, and the two ways in which a call keeps its promise: refused, and taken. Assumes nothing.
+use Prim.Native.Nat.{ℕ, _+_, _-_, _%_, _^_, _≤_, _<_}
+use mathlib.Core.Path.{_≡_, refl, sym, ap, subst, _∙_}
+use mathlib.Core.List.{List, [], _∷_}
+use mathlib.Core.Bool.{Bool, true, false, cond, not, _||_}
+use native.Mathlib.Omega.{arith}
+use native.Mathlib.Decide.{ℕ-discrete}
+use lib.ListN.{length, take, set, length-take, length-set}
+use lib.Seq.{take-take}
+use lib.Dec.{leb, eqb}
+use borrow.Author.Tests.{lt-ltb, le-ltb, eq-eqb, ne-eqb, not-true, not-false}
+use Rattle.tasklist.specs.TaskList.{body-of}
+use Rattle.tasklist.specs.Decode.{accepted}
+use Rattle.tasklist.specs.Accepted.{Accepted}
+use Rattle.tasklist.specs.Tables.{Holds, list-of}
+use Rattle.tasklist.proofs.Guarantees.{accepted-list}
+use Rattle.tasklist.proofs.PlaceLaws.{getD-default}
+use Rattle.semantics.specs.declared.Record.{Record}
+use Rattle.semantics.specs.declared.CallRefusal.{CallRefusal}
+use Rattle.semantics.specs.declared.Answer.the-variants as Answers
+use Rattle.semantics.specs.Run.{Task, context, fixed-weights, weight-of, task-of}
+use Rattle.semantics.specs.Access.{Access, every, allowed}
+use Rattle.semantics.specs.Effect.{Effect, keep, in-state}
+use Rattle.semantics.specs.Plan.{Action, start, «end», at-end, needs-from, plan-start, plan-end, plan}
+use Rattle.semantics.specs.Call.{refuse, accept, hold, admit, settle, among, decide, edited, charged, written, splice, stays, places, changes, apply}
+use Rattle.semantics.specs.Answers.{refusal-number, answer-number, outcome-number, task-from}
+use Rattle.semantics.specs.Sound.{In, Sound}
+use Rattle.semantics.proofs.Order.{splice-same, splice-other}
+use Rattle.semantics.proofs.Decide.{decide-accept}
+use Rattle.semantics.proofs.SoundKept.{sound-kept}
+use Rattle.semantics.proofs.Bounds.{order-below, calls-most, fixed-light, weight-most, weights-most}
+use Rattle.semantics.proofs.Unchanged.{after-refuse, after-accept}
+use Rattle.tables.specs.Rows.{row}
+use Rattle.tables.specs.Places.{without, place-of}
+use Rattle.tables.specs.Ahead.{clear}
+use Rattle.tables.specs.declared.Place.{Place}
+use Rattle.tables.specs.declared.Place.the-variants as Places
+use Rattle.tables.proofs.SpliceLaws.{placed, unplaced, without-splice}
+use Rattle.tables.proofs.SearchLaws.{all-allowed}
+use Rattle.runtime.specs.declared.Run.{Run}
+use Rattle.runtime.specs.View.{tasks-from, model, context-of, SoundRun, blank-record}
+use Rattle.runtime.specs.Calls.{call-of, decided, CalledAs}
+use Rattle.runtime.specs.Parts.{Placed, no-record, record-of, start-effect, end-effect, with-state, heavier, applied, started, EndedAs}
+use Rattle.runtime.proofs.ViewLaws.{same-run, tasks-set, task-is}
+
+-- What is decided, test by test.
+module _ (run : Run) (n : ℕ) where
+  pub no-number : (a : Action) → 127 < n → decided run a n ≡ refuse 9
+  unfolding decide
+  no-number a h = rw (le-ltb n 128 (omega arith)) refl
+
+  module _ (below : n < 128) where
+    pub not-listed : (a : Action) → among n (model run .order) ≡ false → decided run a n ≡ refuse 10
+    unfolding decide
+    not-listed a h = rw (lt-ltb n 128 below, h) refl
+
+    module _ (listed : among n (model run .order) ≡ true) where
+      by-plan : (a : Action) → decided run a n ≡ settle (model run) n (plan (context-of run) a n (task-of (model run) n))
+      unfolding decide
+      by-plan a = rw (lt-ltb n 128 below, listed) refl
+
+      pub start-again : (task-of (model run) n .state ≡ 1 → ⊥) → decided run start n ≡ refuse 11
+      unfolding plan plan-start settle
+      start-again h = by-plan start ∙ rw (ne-eqb (task-of (model run) n .state) 1 h) refl
+
+      start-settled :
+          task-of (model run) n .state ≡ 1
+          → decided run start n
+          ≡ cond (every (allowed (model run) n) (needs-from 0 (task-of (model run) n .modes)))
+          (accept (start-effect run n)) (refuse 12)
+      unfolding plan plan-start settle admit hold
+      start-settled h = by-plan start ∙ rw (eq-eqb (task-of (model run) n .state) 1 h) refl
+
+      pub end-early : (task-of (model run) n .state ≡ 2 → ⊥) → decided run «end» n ≡ refuse 13
+      unfolding plan plan-end settle
+      end-early h = by-plan «end» ∙ rw (ne-eqb (task-of (model run) n .state) 2 h) refl
+
+      module _ (waits : task-of (model run) n .state ≡ 2) where
+        pub end-accepted :
+            at-end (context-of run) (task-of (model run) n) ≡ true → decided run «end» n ≡ accept (end-effect run n)
+        unfolding plan plan-end settle admit every
+        end-accepted h = by-plan «end» ∙ rw (eq-eqb (task-of (model run) n .state) 2 waits, h) refl
+
+        pub end-unfinished : at-end (context-of run) (task-of (model run) n) ≡ false → decided run «end» n ≡ refuse 15
+        unfolding plan plan-end settle
+        end-unfinished h = by-plan «end» ∙ rw (eq-eqb (task-of (model run) n .state) 2 waits, h) refl
+
+or-true : (b : Bool) → (b || true) ≡ true
+or-true true = refl
+or-true false = refl
+
+or-false : (b : Bool) → (b || false) ≡ b
+or-false true = refl
+or-false false = refl
+
+-- A sound run's list and records.
+module _ (run : Run) (s : SoundRun run) where
+  pub list-accepted : Accepted (list-of (run .tables))
+  list-accepted = accepted-list (s .bytes) (list-of (run .tables)) (s .list)
+
+  pub own-task : (n : ℕ) → n < 128 → task-of (model run) n ≡ task-from (record-of run n) (row n (run .modes))
+  own-task n h =
+      task-is run n (omega (arith, s .records))
+      ∙ ap (λ t. task-from t (row n (run .modes))) (getD-default (run .records) n blank-record no-record (omega (arith, s .records)))
+
+  rows-same : (k : ℕ) → In k (model run .order) → row k (run .modes) ≡ task-of (model run) k .modes
+  rows-same k i =
+      sym (ap (λ t. t .modes) (own-task k (order-below (context-of run) list-accepted (model run) (s .sound .valid) k i)))
+
+  -- the search from the front is the model's look at the tasks ahead
+  looks-ahead :
+      (n place : ℕ) (gs : List Access) → Placed run n place
+      → every (clear (run .modes) (take place (run .order))) gs ≡ every (allowed (model run) n) gs
+  looks-ahead n place gs p =
+      ap (λ l. every (clear (run .modes) l) gs) (sym (p .ahead-of)) ∙ all-allowed (model run) n (run .modes) rows-same gs
+
+-- The place that was found, in the code's terms.
+module _ (run : Run) (n : ℕ) (below : n < 128) (p : Place)
+    (found : length (run .order) ≡ 128 → p ≡ place-of n (take (run .left) (run .order)))
+  where
+    pub absent-refused : p ≡ Places.Absent → SoundRun run → (a : Action) → decided run a n ≡ refuse 10
+    unfolding model
+    absent-refused q s a = not-listed run n below a (unplaced n (take (run .left) (run .order)) (sym (found (s .order)) ∙ q))
+
+    pub found-placed : (place : ℕ) → p ≡ Places.At place → SoundRun run → Placed run n place
+    unfolding model
+    found-placed place q s =
+        let there = placed n (take (run .left) (run .order)) place (sym (found (s .order)) ∙ q) in
+        let inside : place < run .left = omega (arith, there .within, length-take (run .left) (run .order)) in
+        record {
+          within = inside;
+          here = there .there;
+          listed = there .listed;
+          ahead-of = sym (there .before) ∙ take-take place (run .left) (run .order) (omega arith);
+        }
+
+-- The tests of a start and of an end, in the code's terms.
+module _ (run : Run) (n : ℕ) (below : n < 128) (s : SoundRun run) where
+  pub fault-ends : (record-of run n .fault ≡ 0 → ⊥) → true ≡ at-end (context-of run) (task-of (model run) n)
+  unfolding at-end
+  fault-ends h =
+      sym
+      (ap (λ t. leb (length (body-of (list-of (run .tables)) (t .body))) (t .pc) || not (eqb (t .fault) 0)) (own-task run s n below)
+      ∙ rw (ne-eqb (record-of run n .fault) 0 h) (or-true (leb (length (body-of (list-of (run .tables)) (record-of run n .body))) (record-of run n .pc))))
+
+  pub size-ends :
+      (size : ℕ) → size ≡ length (body-of (list-of (run .tables)) (record-of run n .body)) → record-of run n .fault ≡ 0
+      → leb size (record-of run n .pc) ≡ at-end (context-of run) (task-of (model run) n)
+  unfolding at-end
+  size-ends size q h =
+      ap (λ k. leb k (record-of run n .pc)) q
+      ∙ sym
+      (ap (λ t. leb (length (body-of (list-of (run .tables)) (t .body))) (t .pc) || not (eqb (t .fault) 0)) (own-task run s n below)
+      ∙ rw (eq-eqb (record-of run n .fault) 0 h) (or-false (leb (length (body-of (list-of (run .tables)) (record-of run n .body))) (record-of run n .pc))))
+
+  own-state : task-of (model run) n .state ≡ record-of run n .state
+  own-state = ap (λ t. t .state) (own-task run s n below)
+
+  module _ (place : ℕ) (p : Placed run n place) where
+    pub started-again : (record-of run n .state ≡ 1 → ⊥) → decided run start n ≡ refuse 11
+    started-again h = start-again run n below (p .listed) (λ q. h (sym own-state ∙ q))
+
+    -- what the search says of the wanted modes
+    module _ (ready : record-of run n .state ≡ 1) (wanted : List ℕ) (same : wanted ≡ row n (run .modes)) (b : Bool)
+        (searched : b ≡ not (every (clear (run .modes) (take place (run .order))) (needs-from 0 wanted)))
+      where
+        passing : every (clear (run .modes) (take place (run .order))) (needs-from 0 wanted) ≡ every (allowed (model run) n) (needs-from 0 (task-of (model run) n .modes))
+        passing =
+            looks-ahead run s n place (needs-from 0 wanted) p
+            ∙ ap (λ ms. every (allowed (model run) n) (needs-from 0 ms)) (same ∙ sym (ap (λ t. t .modes) (own-task run s n below)))
+
+        start-by : (t : Bool) → every (allowed (model run) n) (needs-from 0 (task-of (model run) n .modes)) ≡ t
+            → decided run start n ≡ cond t (accept (start-effect run n)) (refuse 12)
+        start-by t q =
+            start-settled run n below (p .listed) (own-state ∙ ready) ∙ ap (λ x. cond x (accept (start-effect run n)) (refuse 12)) q
+
+        pub start-blocked : b ≡ true → decided run start n ≡ refuse 12
+        start-blocked q = start-by false (sym passing ∙ not-true _ (sym searched ∙ q))
+
+        pub start-free : b ≡ false → decided run start n ≡ accept (start-effect run n)
+        start-free q = start-by true (sym passing ∙ not-false _ (sym searched ∙ q))
+
+    pub end-waiting : (record-of run n .state ≡ 2 → ⊥) → decided run «end» n ≡ refuse 13
+    end-waiting h = end-early run n below (p .listed) (λ q. h (sym own-state ∙ q))
+
+    module _ (going : record-of run n .state ≡ 2) (b : Bool) (ends : b ≡ at-end (context-of run) (task-of (model run) n)) where
+      pub end-free : b ≡ true → decided run «end» n ≡ accept (end-effect run n)
+      end-free q = end-accepted run n below (p .listed) (own-state ∙ going) (sym ends ∙ q)
+
+      pub end-too-soon : b ≡ false → decided run «end» n ≡ refuse 15
+      end-too-soon q = end-unfinished run n below (p .listed) (own-state ∙ going) (sym ends ∙ q)
+
+-- A call that is refused: the very run is handed back.
+pub called-refused :
+    (a : Action) (run : Run) (n : ℕ) (k : CallRefusal) → (SoundRun run → decided run a n ≡ refuse (refusal-number k))
+    → CalledAs a run n (record { answer = Answers.Refused k; run = run })
+called-refused a run n k h =
+    record {
+      answer = λ s. unfold answer-number outcome-number in sym (ap outcome-number (h s));
+      run = λ s. sym (after-refuse (context-of run) (model run) (call-of a n) (refusal-number k) (h s));
+      sound = λ s. s;
+      list = refl;
+      refused = λ j q. refl;
+    }
+
+-- the arrays are whole
+pub record Whole (run : Run) : Type 0 where
+  pub memory : length (run .memory) ≡ 64
+  pub records : length (run .records) ≡ 128
+  pub modes : length (run .modes) ≡ 8192
+  pub order : length (run .order) ≡ 128
+  pub left : run .left ≤ 128
+
+-- A call that is accepted: the run after its effect is handed back.
+pub called-taken :
+    (a : Action) (run : Run) (n : ℕ) (e : Effect) (next : Run) → next .tables ≡ run .tables
+    → (SoundRun run → decided run a n ≡ accept e)
+    → (SoundRun run → (model next ≡ apply n e (model run)) × Whole next)
+    → CalledAs a run n (record { answer = Answers.Accepted; run = next })
+called-taken a run n e next t h m =
+    record {
+      answer = λ s. unfold answer-number outcome-number in sym (ap outcome-number (h s));
+      run = λ s. m s .0 ∙ sym (after-accept (context-of run) (model run) (call-of a n) e (h s));
+      sound = keeps;
+      list = t;
+      refused = λ k q. let z : _≡_ {A = ℕ} 0 1 = cc in let bad : ⊥ = omega arith in absurd bad;
+    }
+  where
+    keeps : SoundRun run → SoundRun next
+    keeps s =
+        record {
+          bytes = s .bytes;
+          list = s .list ∙ ap (λ x. accepted (list-of x)) (sym t);
+          tables = subst (λ x. Holds x (list-of x)) (sym t) (s .tables);
+          memory = m s .1 .memory;
+          records = m s .1 .records;
+          modes = m s .1 .modes;
+          order = m s .1 .order;
+          left = m s .1 .left;
+          sound =
+              subst (λ x. Sound (context (list-of x)) 8 (model next)) (sym t)
+              (subst (Sound (context-of run) 8) (sym (m s .0))
+              (sound-kept (context-of run) (list-accepted run s) 8 (fixed-light (list-of (run .tables))) (model run) (s .sound)
+              (call-of a n) e (decide-accept (context-of run) (model run) (call-of a n) e (h s))));
+        }
+
+-- an effect on the task's own record and its place in the order
+abbrev pub own-effect : Task → Bool → ℕ → Effect
+own-effect t leaves w = record { task = t; edit = keep; made = []; leaves = leaves; weight = w }
+
+small-sum : (a b : ℕ) → a ≤ 34816 → b ≤ 8 → (a + b) % 2 ^ 32 ≡ a + b
+small-sum a b h k = omega arith
+
+-- What `applied` comes to.
+module _
+    (run : Run) (s : SoundRun run) (n : ℕ) (below : n < 128) (own : Record) (order : List ℕ) (left w : ℕ) (leaves : Bool)
+    (same-weight : own .weight ≡ record-of run n .weight) (light : w ≤ 8)
+    (spliced : take left order ≡ splice n (places n (own-effect (task-from own (row n (run .modes))) leaves w)) (take (run .left) (run .order)))
+  where
+    light-own : own .weight ≤ 34816
+    light-own =
+        let h = weights-most (list-of (run .tables)) (model run) (s .sound) n in
+        let q = ap (λ t. t .weight) (own-task run s n below) in
+        omega (arith, h, q, same-weight)
+
+    charged-own : task-from (heavier w own) (row n (run .modes)) ≡ charged w (task-from own (row n (run .modes)))
+    charged-own =
+        ap (λ x. record {
+          state = own .state;
+          body = own .body;
+          pc = own .pc;
+          registers = own .registers;
+          modes = row n (run .modes);
+          steps = own .steps;
+          fault = own .fault;
+          weight = x;
+        }) (small-sum (own .weight) w light-own light)
+
+    few-calls : run .calls ≤ 4352
+    unfolding model
+    few-calls = calls-most (context-of run) 8 (model run) (s .sound)
+
+    small-weight : run .weight ≤ 34816
+    unfolding model
+    small-weight = weight-most (list-of (run .tables)) (model run) (s .sound)
+
+    pub applied-model : model (applied n own order left w run) ≡ apply n (own-effect (task-from own (row n (run .modes))) leaves w) (model run)
+    unfolding model applied apply changes written edited
+    applied-model =
+        same-run (model (applied n own order left w run)) (apply n (own-effect (task-from own (row n (run .modes))) leaves w) (model run))
+        refl
+        (tasks-set (run .records) (run .modes) n (heavier w own) ∙ ap (set (tasks-from 0 (run .records) (run .modes)) n) charged-own)
+        spliced
+        (omega (arith, few-calls))
+        (small-sum (run .weight) w small-weight light)
+
+    pub applied-whole : length order ≡ 128 → left ≤ 128 → Whole (applied n own order left w run)
+    unfolding applied
+    applied-whole o l =
+        record {
+          memory = s .memory;
+          records = length-set (run .records) n (heavier w own) ∙ s .records;
+          modes = s .modes;
+          order = o;
+          left = l;
+        }
+
+splice-self : (n : ℕ) (o : List ℕ) → splice n (n ∷ []) o ≡ o
+unfolding splice
+splice-self n [] = refl
+splice-self n (k ∷ o) = sort (splice-self n o) (ℕ-discrete k n)
+  where
+    sort : splice n (n ∷ []) o ≡ o → Dec (k ≡ n) → splice n (n ∷ []) (k ∷ o) ≡ k ∷ o
+    sort ih (yes q) = splice-same n k (n ∷ []) o q ∙ ap (λ l. n ∷ l) ih ∙ ap (λ x. x ∷ o) (sym q)
+    sort ih (no q) = splice-other n k (n ∷ []) o q ∙ ap (λ l. k ∷ l) ih
+
+-- A start that is accepted.
+pub start-taken :
+    (run : Run) (n : ℕ) → n < 128 → (SoundRun run → decided run start n ≡ accept (start-effect run n))
+    → CalledAs start run n (record { answer = Answers.Accepted; run = started n run })
+start-taken run n below h = called-taken start run n (start-effect run n) (started n run) (unfold applied in refl) h after-start
+  where
+    after-start : SoundRun run → (model (started n run) ≡ apply n (start-effect run n) (model run)) × Whole (started n run)
+    after-start s =
+        let own = with-state 2 (record-of run n) in
+        let same : take (run .left) (run .order) ≡ splice n (places n (own-effect (task-from own (row n (run .modes))) false 5)) (take (run .left) (run .order)) =
+        unfold places stays in sym (splice-self n (take (run .left) (run .order))) in
+        let effect : own-effect (task-from own (row n (run .modes))) false 5 ≡ start-effect run n =
+        unfold weight-of fixed-weights in ap (λ t. own-effect (in-state 2 t) false 5) (sym (own-task run s n below)) in (
+          applied-model run s n below own (run .order) (run .left) 5 false refl (omega arith) same ∙ ap (λ e. apply n e (model run)) effect,
+          applied-whole run s n below own (run .order) (run .left) 5 false refl (omega arith) same (s .order) (s .left),
+        )
+
+left-out :
+    (run : Run) (n place : ℕ) → SoundRun run → Placed run n place
+    → without place (take (run .left) (run .order)) ≡ splice n [] (take (run .left) (run .order))
+unfolding model
+left-out run n place s p =
+    without-splice n (take (run .left) (run .order)) place (s .sound .valid .distinct)
+    (omega (arith, p .within, s .left, s .order, length-take (run .left) (run .order))) (p .here)
+
+-- An end that is accepted.
+pub end-taken :
+    (run : Run) (n place : ℕ) (next : Run) → n < 128
+    → (SoundRun run → Placed run n place × (decided run «end» n ≡ accept (end-effect run n))) → EndedAs n place run next
+    → CalledAs «end» run n (record { answer = Answers.Accepted; run = next })
+end-taken run n place next below h e =
+    called-taken «end» run n (end-effect run n) next (ap (λ r. r .tables) (e .run) ∙ (unfold applied in refl)) (λ s. h s .1) (λ s. after-end s (h s .0))
+  where
+    after-end : SoundRun run → Placed run n place → (model next ≡ apply n (end-effect run n) (model run)) × Whole next
+    after-end s p =
+        let own = with-state 3 (record-of run n) in
+        let same : take (run .left - 1) (next .order) ≡ splice n (places n (own-effect (task-from own (row n (run .modes))) true 2)) (take (run .left) (run .order)) =
+        unfold places stays in e .order (p .within) (s .left) ∙ left-out run n place s p in
+        let effect : own-effect (task-from own (row n (run .modes))) true 2 ≡ end-effect run n =
+        unfold weight-of fixed-weights in ap (λ t. own-effect (in-state 3 t) true 2) (sym (own-task run s n below)) in (
+          ap model (e .run) ∙ applied-model run s n below own (next .order) (run .left - 1) 2 true refl (omega arith) same
+              ∙ ap (λ x. apply n x (model run)) effect,
+          subst Whole (sym (e .run))
+              (applied-whole run s n below own (next .order) (run .left - 1) 2 true refl (omega arith) same (e .whole) (omega (arith, s .left))),
+        )

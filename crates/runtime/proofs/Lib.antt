@@ -1,0 +1,6 @@
+-- Laws that the proofs of the functions cite.
+pub mod StateLaws
+pub mod ViewLaws
+pub mod OpenLaws
+pub mod CallLaws
+pub mod AskLaws

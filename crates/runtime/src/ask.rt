@@ -1,0 +1,139 @@
+// What is asked of a run: a task's record, a location's queue, the accepted list's bytes.
+ghost use Prim.Native.Nat.{ℕ, _+_, _≤_, min};
+ghost use mathlib.Core.Path.{_≡_};
+ghost use lib.ListN.{length};
+ghost use lib.Seq.{sets};
+ghost use Rattle.tasklist.specs.Encode.{encode};
+ghost use Rattle.tasklist.specs.Tables.{list-of};
+ghost use Rattle.tasklist.specs.Answers.{written, write-answer, write-places};
+ghost use Rattle.semantics.specs.Operations.{record-asked, queue-asked};
+ghost use Rattle.runtime.specs.View.{model, context-of};
+ghost use Rattle.runtime.specs.Asked.{recorded, QueuedAs};
+ghost use Rattle.runtime.specs.Parts.{shown, all-shown};
+use crate::Queued;
+use crate::Recorded;
+use crate::Run;
+use crate::state::blank_record;
+use semantics::Answer;
+use semantics::CallRefusal;
+use tasklist::Written;
+
+// A byte as an index.
+fn wide(x: u8) -> usize
+    ensures { λ r. ⌜ r ≡ x ⌝ }
+{
+    x as usize
+}
+
+// `left`, at most 128.
+fn within(left: usize) -> usize
+    ensures { λ r. ⌜ r ≡ min left 128 ⌝ }
+{
+    if left < 128 { left } else { 128 }
+}
+
+// How many places a task with this mode takes.
+fn width(mode: u8) -> usize
+    ensures { λ r. ⌜ ((k : ℕ) → r ≡ length (shown k mode)) × (r ≤ 1) ⌝ }
+{
+    if mode == 0 { 0 } else { 1 }
+}
+
+// How many places the queue of a location takes.
+fn queue_length(run: Run, location: usize) -> usize
+    ensures { λ r. ⌜ r ≡ length (all-shown run location) ⌝ }
+{
+    let left = within(run.left);
+    let mut n = 0;
+    let mut i = 0;
+    while i < left {
+        let task = wide(run.order[i]);
+        let mode = tables::mode_at(&run.modes, task, location);
+        n += width(mode);
+        i += 1;
+    }
+    n
+}
+
+// Puts a task with its mode at `at`, unless the mode is 0, and gives the position behind it.
+fn put_place(out: &mut [u16], at: usize, task: u8, mode: u8) -> usize
+    requires { ⌜ at + length (shown task mode) ≤ length (now out) ⌝ }
+    ensures { λ r. ⌜ (r ≡ at + length (shown task mode)) × (now (out .exit) ≡ sets (now (out .entry)) at (shown task mode)) ⌝ }
+{
+    if mode == 0 {
+        return at;
+    }
+    out[at] = task as u16 + 256 * (mode as u16);
+    at + 1
+}
+
+// Puts the queue of a location at the front.
+fn put_queue(run: Run, location: usize, out: &mut [u16])
+    requires { ⌜ length (all-shown run location) ≤ length (now out) ⌝ }
+    ensures { λ r. ⌜ now (out .exit) ≡ sets (now (out .entry)) 0 (all-shown run location) ⌝ }
+{
+    let left = within(run.left);
+    let mut at = 0;
+    let mut i = 0;
+    while i < left {
+        let task = run.order[i];
+        let mode = tables::mode_at(&run.modes, wide(task), location);
+        at = put_place(out, at, task, mode);
+        i += 1;
+    }
+}
+
+impl Run {
+    // One task's record with its 64 modes: 9 number above 127.
+    pub fn record(self, task: u32) -> Recorded
+        ensures { λ r. ⌜ recorded r ≡ record-asked (model self) task ⌝ }
+    {
+        if 127 < task {
+            let zero = blank_record();
+            return Recorded {
+                answer: Answer::Refused {
+                    refusal: CallRefusal::Number,
+                },
+                task: zero,
+                modes: [0u8; 64],
+            };
+        }
+        let n = task as usize;
+        let own = self.records[n];
+        let modes = tables::row_of(&self.modes, n);
+        Recorded {
+            answer: Answer::Accepted,
+            task: own,
+            modes,
+        }
+    }
+
+    // Writes a location's queue, number + 256 * mode for each task from the front: 16 location not below C, 17 `out` too
+    // short.
+    pub fn queue(self, location: u32, out: &mut [u16]) -> Queued
+        ensures { λ r. ⌜ QueuedAs (queue-asked (context-of self) (model self) location (length (now (out .entry)))) (now (out .entry)) (now (out .exit)) r ⌝ }
+    {
+        let tables = self.tables;
+        if tables.locations as u32 <= location {
+            return Queued::Refused {
+                refusal: CallRefusal::Location,
+            };
+        }
+        let n = queue_length(self, location as usize);
+        if out.len() < n {
+            return Queued::Refused {
+                refusal: CallRefusal::Short,
+            };
+        }
+        put_queue(self, location as usize, out);
+        Queued::Places(n)
+    }
+
+    // Writes the accepted list's own bytes: 17 `out` too short.
+    pub fn write(self, out: &mut [u8]) -> Written
+        ensures { λ r. ⌜ (written r ≡ write-answer (encode (list-of (self .tables))) (now (out .entry))) × (now (out .exit) ≡ write-places (encode (list-of (self .tables))) (now (out .entry))) ⌝ }
+    {
+        let list = self.tables;
+        tasklist::write(list, out)
+    }
+}

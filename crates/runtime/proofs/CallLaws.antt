@@ -41,6 +41,7 @@ use Rattle.runtime.specs.declared.Run.{Run}
 use Rattle.runtime.specs.View.{tasks-from, model, context-of, SoundRun, blank-record}
 use Rattle.runtime.specs.Calls.{call-of, decided, CalledAs}
 use Rattle.runtime.specs.Parts.{Placed, no-record, record-of, start-effect, end-effect, with-state, heavier, applied, started, EndedAs}
+use Rattle.runtime.specs.Steps.{WholeRun}
 use Rattle.runtime.proofs.ViewLaws.{same-run, tasks-set, task-is}
 
 -- What is decided, test by test.
@@ -55,7 +56,7 @@ module _ (run : Run) (n : ℕ) where
     not-listed a h = rw (lt-ltb n 128 below, h) refl
 
     module _ (listed : among n (model run .order) ≡ true) where
-      by-plan : (a : Action) → decided run a n ≡ settle (model run) n (plan (context-of run) a n (task-of (model run) n))
+      pub by-plan : (a : Action) → decided run a n ≡ settle (model run) n (plan (context-of run) a n (task-of (model run) n))
       unfolding decide
       by-plan a = rw (lt-ltb n 128 below, listed) refl
 
@@ -103,7 +104,7 @@ module _ (run : Run) (s : SoundRun run) where
       task-is run n (omega (arith, s .records))
       ∙ ap (λ t. task-from t (row n (run .modes))) (getD-default (run .records) n blank-record no-record (omega (arith, s .records)))
 
-  rows-same : (k : ℕ) → In k (model run .order) → row k (run .modes) ≡ task-of (model run) k .modes
+  pub rows-same : (k : ℕ) → In k (model run .order) → row k (run .modes) ≡ task-of (model run) k .modes
   rows-same k i =
       sym (ap (λ t. t .modes) (own-task k (order-below (context-of run) list-accepted (model run) (s .sound .valid) k i)))
 
@@ -153,7 +154,7 @@ module _ (run : Run) (n : ℕ) (below : n < 128) (s : SoundRun run) where
       (ap (λ t. leb (length (body-of (list-of (run .tables)) (t .body))) (t .pc) || not (eqb (t .fault) 0)) (own-task run s n below)
       ∙ rw (eq-eqb (record-of run n .fault) 0 h) (or-false (leb (length (body-of (list-of (run .tables)) (record-of run n .body))) (record-of run n .pc))))
 
-  own-state : task-of (model run) n .state ≡ record-of run n .state
+  pub own-state : task-of (model run) n .state ≡ record-of run n .state
   own-state = ap (λ t. t .state) (own-task run s n below)
 
   module _ (place : ℕ) (p : Placed run n place) where
@@ -204,12 +205,8 @@ called-refused a run n k h =
     }
 
 -- the arrays are whole
-pub record Whole (run : Run) : Type 0 where
-  pub memory : length (run .memory) ≡ 64
-  pub records : length (run .records) ≡ 128
-  pub modes : length (run .modes) ≡ 8192
-  pub order : length (run .order) ≡ 128
-  pub left : run .left ≤ 128
+abbrev pub Whole : Run → Type 0
+Whole run = WholeRun run
 
 -- A call that is accepted: the run after its effect is handed back.
 pub called-taken :
@@ -305,7 +302,7 @@ module _
           left = l;
         }
 
-splice-self : (n : ℕ) (o : List ℕ) → splice n (n ∷ []) o ≡ o
+pub splice-self : (n : ℕ) (o : List ℕ) → splice n (n ∷ []) o ≡ o
 unfolding splice
 splice-self n [] = refl
 splice-self n (k ∷ o) = sort (splice-self n o) (ℕ-discrete k n)

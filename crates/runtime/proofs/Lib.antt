@@ -4,3 +4,7 @@ pub mod ViewLaws
 pub mod OpenLaws
 pub mod CallLaws
 pub mod AskLaws
+pub mod StepLaws
+pub mod CarryLaws
+pub mod ReplayLaws
+pub mod SequentialLaws

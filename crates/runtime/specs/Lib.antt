@@ -3,3 +3,5 @@ pub mod View
 pub mod Calls
 pub mod Asked
 pub mod Parts
+pub mod Steps
+pub mod Replays

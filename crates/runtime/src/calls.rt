@@ -15,7 +15,7 @@ use semantics::CallRefusal;
 use tables::Place;
 
 // "start 5, end 2, codes 0 to 8: 1, 1, 1, 1, 3, 4, 1, 8, 1"
-const WEIGHTS: [u32; 11] = [5, 2, 1, 1, 1, 1, 3, 4, 1, 8, 1];
+pub const WEIGHTS: [u32; 11] = [5, 2, 1, 1, 1, 1, 3, 4, 1, 8, 1];
 
 // The place of a task in the order: 9, then 10.
 pub fn place_of(run: Run, task: u32) -> Located

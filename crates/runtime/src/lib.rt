@@ -61,9 +61,50 @@ pub enum Located {
     At { place: usize },
 }
 
+// What an access of a task comes to: faults come before waiting.
+pub enum Access {
+    Fault { fault: u8 },
+    Held,
+    Free,
+}
+
+// What an instruction comes to, by the task's own record and a look at the tasks ahead.
+pub enum StepPlan {
+    // 12: the task is held back.
+    Held,
+    Fault { fault: u8 },
+    // One step on, with a value in a register.
+    Assign { target: u8, value: u32 },
+    // One step on, and over this many instructions.
+    Pass { over: u8 },
+    // One step on, with a value at a location.
+    Store { location: usize, value: u32 },
+    // One step on with a task made, or the fault of its footprint.
+    Spawn { body: u8, footprint: u8 },
+}
+
+// What comes of a step.
+pub enum Stepping {
+    Refused {
+        refusal: CallRefusal,
+    },
+    Taken {
+        plan: StepPlan,
+        place: usize,
+        weight: u32,
+    },
+}
+
 mod ask;
 mod calls;
+mod carry;
 mod opening;
+mod parts;
+mod replaying;
 mod state;
+mod step;
+mod whole;
 
 pub use opening::open;
+pub use replaying::replay;
+pub use whole::sequential;

@@ -1,0 +1,27 @@
+-- The registers are those of the part.
+-- Assumes nothing.
+use mathlib.Core.Path.{ap}
+use borrow.Author.Needs.{needs}
+use Rattle.runtime.proofs.carry.holding.Statement.{statement}
+use Rattle.runtime.proofs.carry.holding.Tie as tie
+use Rattle.runtime.proofs.carry.holding.Reads as reads
+use Rattle.runtime.proofs.carry.holding.Lts as lts
+use Rattle.runtime.proofs.carry.with_register.Reads as with-register-reads
+
+with-register-requires : tie.Need-with-register-requires
+with-register-requires c κs = search needs
+
+returns : tie.Need-returns
+returns c =
+    ap (λ rs. record {
+      state = c .before .before .args .own .state;
+      body = c .before .before .args .own .body;
+      pc = c .before .before .args .own .pc;
+      registers = rs;
+      steps = c .before .before .args .own .steps;
+      fault = c .before .before .args .own .fault;
+      weight = c .before .before .args .own .weight;
+    }) (c .with-register .ensures)
+
+pub holding-spec : {M : Type 1} → statement M
+holding-spec = tie.close (tie.spec with-register-requires returns)

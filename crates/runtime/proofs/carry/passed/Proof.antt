@@ -1,0 +1,26 @@
+-- Field by field.
+-- Assumes nothing.
+use mathlib.Core.Path.{ap}
+use borrow.Author.Needs.{needs}
+use Rattle.runtime.proofs.carry.passed.Statement.{statement}
+use Rattle.runtime.proofs.carry.passed.Tie as tie
+use Rattle.runtime.proofs.carry.passed.Reads as reads
+use Rattle.runtime.proofs.carry.passed.Lts as lts
+use Rattle.std.proofs.num.wrapping_add_u32.Reads as wrapping-add-u32-reads
+
+add-count : tie.Need-add-count
+add-count c = search needs
+
+wrapping-add-u32-requires : tie.Need-wrapping-add-u32-requires
+wrapping-add-u32-requires c κs = search needs
+
+wrapping-add-u32-requires-2 : tie.Need-wrapping-add-u32-requires-2
+wrapping-add-u32-requires-2 c κs = search needs
+
+returns : tie.Need-returns
+returns c =
+    (cc, search needs)
+
+pub passed-spec : {M : Type 1} → statement M
+passed-spec =
+    tie.close (tie.spec add-count wrapping-add-u32-requires wrapping-add-u32-requires-2 returns)

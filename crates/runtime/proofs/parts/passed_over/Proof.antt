@@ -1,0 +1,19 @@
+-- By the test.
+-- Assumes nothing.
+use Rattle.runtime.proofs.StepLaws.{over-zero, over-none}
+use borrow.Author.Needs.{needs}
+use Rattle.runtime.proofs.parts.passed_over.Statement.{statement}
+use Rattle.runtime.proofs.parts.passed_over.Tie as tie
+use Rattle.runtime.proofs.parts.passed_over.Reads as reads
+use Rattle.runtime.proofs.parts.passed_over.Lts as lts
+
+returns : tie.Need-returns
+returns c =
+    over-zero (c .before .args .test) (c .before .args .length) (c .if1 .taken)
+
+returns-2 : tie.Need-returns-2
+returns-2 c =
+    over-none (c .before .args .test) (c .before .args .length) (c .if1 .left)
+
+pub passed-over-spec : {M : Type 1} → statement M
+passed-over-spec = tie.close (tie.spec returns returns-2)

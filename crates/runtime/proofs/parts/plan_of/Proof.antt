@@ -1,0 +1,53 @@
+-- The code says which of the two was right to ask.
+-- Assumes nothing.
+use native.Mathlib.Omega.{arith}
+use Rattle.runtime.proofs.StepLaws.{either, waiting-code, free-code, free-plans}
+use Rattle.runtime.specs.Parts.{record-of}
+use mathlib.Core.Logic.{_≢_}
+use borrow.Author.Needs.{needs}
+use Rattle.runtime.proofs.parts.plan_of.Statement.{statement}
+use Rattle.runtime.proofs.parts.plan_of.Tie as tie
+use Rattle.runtime.proofs.parts.plan_of.Reads as reads
+use Rattle.runtime.proofs.parts.plan_of.Lts as lts
+use Rattle.runtime.proofs.parts.free_plan.Reads as free-plan-reads
+use Rattle.runtime.proofs.parts.waiting_plan.Reads as waiting-plan-reads
+
+waiting-plan-requires : tie.Need-waiting-plan-requires
+waiting-plan-requires c κs = search needs
+
+mul-own : tie.Need-mul-own
+mul-own c = search needs
+
+element-copy-out-own : tie.Need-element-copy-out-own
+element-copy-out-own c = search needs
+
+free-plan-requires : tie.Need-free-plan-requires
+free-plan-requires c κs = search needs
+
+returns : tie.Need-returns
+returns c =
+    let a = c .before .before .before .args in
+    let not-six : a .code ≢ 6 = either (c .before .if2 .came) (λ x q. omega (arith, x .taken, q)) (λ x q. omega (arith, x .1 .left, q)) in
+    let not-seven : a .code ≢ 7 = either (c .before .if2 .came) (λ x q. omega (arith, x .taken, q)) (λ x q. omega (arith, x .1 .left, q)) in
+    waiting-code (a .t1) (a .task) (a .place) (a .instruction) (c .waiting-plan .result) (a .code) (c .before .before .before .pre .1) (c .before .before .if1 .left) not-six not-seven (c .waiting-plan .ensures)
+
+returns-2 : tie.Need-returns-2
+returns-2 c =
+    let a = c .before .before .before .before .args in
+    let came = c .before .before .before .if1 .came in
+    let not-four : a .code ≢ 4 = either came (λ x q. omega (arith, x .taken, q)) (λ x q. omega (arith, x .1 .left, q)) in
+    let not-five : a .code ≢ 5 = either came (λ x q. omega (arith, x .taken, q)) (λ x q. omega (arith, x .1 .left, q)) in
+    let not-eight : a .code ≢ 8 = either came (λ x q. omega (arith, x .taken, q)) (λ x q. omega (arith, x .2 .taken, q)) in
+    free-plans (a .t1) (a .task) (a .place) (a .instruction) (c .free-plan .result) (c .before .before .before .before .pre .0)
+    (free-code (record-of (a .t1) (a .task) .registers) (a .instruction) (c .free-plan .result) (a .code) (c .before .before .before .before .pre .1) not-four not-five not-eight (c .free-plan .ensures))
+
+pub plan-of-spec : {M : Type 1} → statement M
+plan-of-spec =
+    tie.close
+    (tie.spec
+    waiting-plan-requires
+    mul-own
+    element-copy-out-own
+    free-plan-requires
+    returns
+    returns-2)

@@ -1,0 +1,224 @@
+-- What the parts of a step promise each other.
+use Prim.Native.Nat.{ℕ, _+_, _%_, _^_, _≤_, _<_}
+use mathlib.Core.Path.{_≡_}
+use mathlib.Core.List.{List}
+use mathlib.Core.Bool.{Bool, true, false}
+use mathlib.Core.Logic.{_≢_}
+use lib.ListN.{length, take, set}
+use Rattle.tasklist.specs.declared.Instruction.{Instruction}
+use Rattle.tasklist.specs.declared.Instruction.the-variants.{Const, Add, Sub, Less, Load, Store, Skip, Spawn, Wait}
+use Rattle.tasklist.specs.TaskList.{footprint-of}
+use Rattle.tasklist.specs.Tables.{list-of}
+use Rattle.semantics.specs.declared.Record.{Record}
+use Rattle.semantics.specs.Run.{mode-of, task-of}
+use Rattle.semantics.specs.Access.{allowed, access-fault}
+use Rattle.semantics.specs.Effect.{Effect, own, moved, faulted, assigned, storing}
+use Rattle.semantics.specs.Footprint.{child-modes}
+use Rattle.semantics.specs.Plan.{step, plan-instruction, plan-spawn}
+use Rattle.semantics.specs.Call.{Outcome, refuse, accept, settle, apply}
+use Rattle.semantics.specs.Answers.{refusal-number}
+use Rattle.tables.specs.Ahead.{access}
+use Rattle.tables.specs.Places.{insert-at}
+use Rattle.tables.specs.Rows.{with}
+use Rattle.runtime.specs.declared.Run.{Run}
+use Rattle.runtime.specs.declared.Access.{Access}
+use Rattle.runtime.specs.declared.Access.the-variants as Found
+use Rattle.runtime.specs.declared.StepPlan.{StepPlan}
+use Rattle.runtime.specs.declared.StepPlan.the-variants as Planned
+use Rattle.runtime.specs.declared.Stepping.{Stepping}
+use Rattle.runtime.specs.declared.Stepping.the-variants.{Refused, Taken}
+use Rattle.runtime.specs.View.{model, context-of, SoundRun}
+use Rattle.runtime.specs.Calls.{decided}
+use Rattle.runtime.specs.Parts.{Placed, applied}
+
+-- the fault of task n's access
+abbrev pub fault-at : Run → ℕ → ℕ → ℕ → ℕ
+fault-at run n a asked = access-fault (mode-of (task-of (model run) n) a) asked
+
+-- what comes of task n's access to a location
+abbrev pub AccessAs : Run → ℕ → ℕ → ℕ → ℕ → Access → Type 0
+AccessAs run n place a asked (Found.Fault k) = (k ≢ 0) × (SoundRun run → fault-at run n a asked ≡ k)
+AccessAs run n place a asked Found.Held =
+    SoundRun run → Placed run n place → (fault-at run n a asked ≡ 0) × (allowed (model run) n (access a asked) ≡ false)
+AccessAs run n place a asked Found.Free =
+    SoundRun run → Placed run n place → (fault-at run n a asked ≡ 0) × (allowed (model run) n (access a asked) ≡ true)
+
+-- what a plan says of task n under weight w
+unfoldable pub planned : Run → ℕ → ℕ → StepPlan → Outcome
+planned run n w Planned.Held = refuse 12
+planned run n w (Planned.Fault k) = accept (own w (faulted k (task-of (model run) n)))
+planned run n w (Planned.Assign a v) = accept (own w (assigned a v (task-of (model run) n)))
+planned run n w (Planned.Pass k) =
+    accept (own w (moved (1 + k) (task-of (model run) n .registers) (task-of (model run) n)))
+planned run n w (Planned.Store a v) = accept (storing w a v (task-of (model run) n))
+planned run n w (Planned.Spawn s f) =
+    let t = task-of (model run) n in
+    settle (model run) n
+    (plan-spawn (context-of run) w n t s (child-modes t (footprint-of (list-of (run .tables)) f)))
+
+-- what an instruction of task n comes to
+unfoldable pub settled : Run → ℕ → ℕ → Instruction → Outcome
+settled run n w i = settle (model run) n (plan-instruction (context-of run) w n (task-of (model run) n) i)
+
+-- the plan of an instruction of the task at this place
+abbrev pub Plans : Run → ℕ → ℕ → Instruction → StepPlan → Type 0
+Plans run n place i p = SoundRun run → Placed run n place → (w : ℕ) → settled run n w i ≡ planned run n w p
+
+-- the same by the registers alone
+abbrev pub PlansFree : List ℕ → Instruction → StepPlan → Type 0
+PlansFree registers i p =
+    (run : Run) (n w : ℕ) → task-of (model run) n .registers ≡ registers → settled run n w i ≡ planned run n w p
+
+-- of those that never wait
+abbrev pub FreeAs : List ℕ → Instruction → StepPlan → Type 0
+FreeAs rs (Const a v) p = PlansFree rs (Const a v) p
+FreeAs rs (Add a x y) p = PlansFree rs (Add a x y) p
+FreeAs rs (Sub a x y) p = PlansFree rs (Sub a x y) p
+FreeAs rs (Less a x y) p = PlansFree rs (Less a x y) p
+FreeAs rs (Load a x) p = Unit {0}
+FreeAs rs (Store a x) p = Unit {0}
+FreeAs rs (Skip a b) p = PlansFree rs (Skip a b) p
+FreeAs rs (Spawn s f) p = PlansFree rs (Spawn s f) p
+FreeAs rs (Wait a) p = Unit {0}
+
+-- of those that may wait
+abbrev pub WaitAs : Run → ℕ → ℕ → Instruction → StepPlan → Type 0
+WaitAs run n place (Const a v) p = Unit {0}
+WaitAs run n place (Add a x y) p = Unit {0}
+WaitAs run n place (Sub a x y) p = Unit {0}
+WaitAs run n place (Less a x y) p = Unit {0}
+WaitAs run n place (Load a x) p = Plans run n place (Load a x) p
+WaitAs run n place (Store a x) p = Plans run n place (Store a x) p
+WaitAs run n place (Skip a b) p = Unit {0}
+WaitAs run n place (Spawn s f) p = Unit {0}
+WaitAs run n place (Wait a) p = Plans run n place (Wait a) p
+
+abbrev pub holds-back : StepPlan → Bool
+holds-back Planned.Held = true
+holds-back (Planned.Fault k) = false
+holds-back (Planned.Assign a v) = false
+holds-back (Planned.Pass k) = false
+holds-back (Planned.Store a v) = false
+holds-back (Planned.Spawn s f) = false
+
+-- what comes of a step of task n: refused, or this plan of the task at this place
+abbrev pub SteppingAs : Run → ℕ → Stepping → Type 0
+SteppingAs run n (Refused k) = SoundRun run → decided run step n ≡ refuse (refusal-number k)
+SteppingAs run n (Taken p place w) =
+    (n < 128) × (holds-back p ≡ false) × (w ≤ 8)
+    × (SoundRun run → Placed run n place × (decided run step n ≡ planned run n w p))
+
+-- "place rises by 1 plus what a skip passes over, instructions done by 1", as 32 bits hold them
+abbrev pub passed : ℕ → Record → Record
+passed over t =
+    record {
+      state = t .state;
+      body = t .body;
+      pc = (t .pc + (1 + over)) % 2 ^ 32;
+      registers = t .registers;
+      steps = (t .steps + 1) % 2 ^ 32;
+      fault = t .fault;
+      weight = t .weight;
+    }
+
+abbrev pub failed : ℕ → Record → Record
+failed k t =
+    record {
+      state = t .state;
+      body = t .body;
+      pc = t .pc;
+      registers = t .registers;
+      steps = (t .steps + 1) % 2 ^ 32;
+      fault = k;
+      weight = t .weight;
+    }
+
+abbrev pub holding : ℕ → ℕ → Record → Record
+holding a v t =
+    record {
+      state = t .state;
+      body = t .body;
+      pc = t .pc;
+      registers = set (t .registers) a v;
+      steps = t .steps;
+      fault = t .fault;
+      weight = t .weight;
+    }
+
+-- "the new job waiting, at place 0, with its sheet .. and a copy of the registers"
+abbrev pub newborn : ℕ → Record → Record
+newborn s t =
+    record {
+      state = 1;
+      body = s;
+      pc = 0;
+      registers = t .registers;
+      steps = 0;
+      fault = 0;
+      weight = 0;
+    }
+
+-- task n with another record, one call on
+abbrev pub onward : ℕ → Record → ℕ → Run → Run
+onward n t w run = applied n t (run .order) (run .left) w run
+
+-- the run with another memory
+abbrev pub with-memory : List ℕ → Run → Run
+with-memory memory run =
+    record {
+      tables = run .tables;
+      memory = memory;
+      records = run .records;
+      modes = run .modes;
+      order = run .order;
+      left = run .left;
+      calls = run .calls;
+      weight = run .weight;
+    }
+
+-- the run with another number at a location
+abbrev pub putting : ℕ → ℕ → Run → Run
+putting a v run = with-memory (set (run .memory) a v) run
+
+-- the run with a task made, these modes and this order
+abbrev pub with-rows : ℕ → Record → List ℕ → List ℕ → Run → Run
+with-rows child made modes order run =
+    record {
+      tables = run .tables;
+      memory = run .memory;
+      records = set (run .records) child made;
+      modes = modes;
+      order = order;
+      left = run .left + 1;
+      calls = run .calls;
+      weight = run .weight;
+    }
+
+abbrev pub with-child : ℕ → Record → List ℕ → List ℕ → Run → Run
+with-child child made row order run = with-rows child made (with child row (run .modes)) order run
+
+-- "directly ahead of its spawner in the order"
+pub record BornAs (place child : ℕ) (made : Record) (row : List ℕ) (from r : Run) : Type 0 where
+  pub list : r .tables ≡ from .tables
+  pub wide : length row ≡ 64
+  pub run : child < 128 → from .left < 128 → r ≡ with-child child made row (r .order) from
+  pub whole : child < 128 → from .left < 128 → length (r .order) ≡ 128
+  pub order :
+      child < 128 → from .left < 128 → place ≤ from .left
+      → take (from .left + 1) (r .order) ≡ insert-at place child (take (from .left) (from .order))
+
+-- the arrays are whole
+pub record WholeRun (run : Run) : Type 0 where
+  pub memory : length (run .memory) ≡ 64
+  pub records : length (run .records) ≡ 128
+  pub modes : length (run .modes) ≡ 8192
+  pub order : length (run .order) ≡ 128
+  pub left : run .left ≤ 128
+
+-- the run after a plan of the task at this place is carried out
+pub record Carries (n place w : ℕ) (p : StepPlan) (from r : Run) : Type 0 where
+  pub list : r .tables ≡ from .tables
+  pub effect :
+      SoundRun from → Placed from n place → w ≤ 8 → (e : Effect) → planned from n w p ≡ accept e
+      → decided from step n ≡ accept e
+      → (model r ≡ apply n e (model from)) × WholeRun r

@@ -1,0 +1,291 @@
+// What each instruction comes to: a look at the task's own record, and for those that may wait at the tasks ahead.
+ghost use Prim.Native.Nat.{_+_, _-_, _%_, _^_, _<_};
+ghost use mathlib.Core.Path.{_≡_};
+ghost use mathlib.Core.Bool.{cond};
+ghost use lib.ListN.{getD};
+ghost use lib.Dec.{ltb};
+ghost use Rattle.tasklist.specs.declared.Instruction.the-variants.{Load, Store, Wait};
+ghost use Rattle.tasklist.specs.Encode.{instruction-fields};
+ghost use Rattle.semantics.specs.Plan.{passed-over};
+ghost use Rattle.runtime.specs.Steps.{AccessAs, Plans, FreeAs, WaitAs};
+use crate::Access;
+use crate::Run;
+use crate::StepPlan;
+use tasklist::Instruction;
+
+// A constant as 32 bits.
+fn constant(value: u16) -> u32
+    ensures { λ r. ⌜ r ≡ value % 2 ^ 32 ⌝ }
+{
+    value as u32
+}
+
+// "sums and differences are modulo 2^32"
+fn difference(left: u32, right: u32) -> u32
+    ensures { λ r. ⌜ r ≡ (left + 2 ^ 32 - right) % 2 ^ 32 ⌝ }
+{
+    std::num::wrapping_sub_u32(left, right)
+}
+
+// "1 if Rb < Rc, else 0"
+fn less(left: u32, right: u32) -> u32
+    ensures { λ r. ⌜ r ≡ cond (ltb left right) 1 0 ⌝ }
+{
+    if left < right { 1 } else { 0 }
+}
+
+// "if Ra is 0, pass over the next b instructions"
+fn passed_over(test: u32, length: u8) -> u8
+    ensures { λ r. ⌜ r ≡ passed-over test length ⌝ }
+{
+    if test == 0 { length } else { 0 }
+}
+
+// The number at a location, 0 where there is none.
+fn value_at(memory: [u32; 64], location: usize) -> u32
+    ensures { λ r. ⌜ r ≡ getD memory location 0 ⌝ }
+{
+    if 63 < location {
+        return 0;
+    }
+    memory[location]
+}
+
+// The code of an instruction.
+pub fn code_of(instruction: Instruction) -> usize
+    ensures { λ r. ⌜ (r ≡ getD (instruction-fields instruction) 0 0) × (r < 9) ⌝ }
+{
+    match instruction {
+        Instruction::Const {
+            target: _,
+            value: _,
+        } => 0,
+        Instruction::Add {
+            target: _,
+            left: _,
+            right: _,
+        } => 1,
+        Instruction::Sub {
+            target: _,
+            left: _,
+            right: _,
+        } => 2,
+        Instruction::Less {
+            target: _,
+            left: _,
+            right: _,
+        } => 3,
+        Instruction::Load {
+            target: _,
+            place: _,
+        } => 4,
+        Instruction::Store {
+            place: _,
+            source: _,
+        } => 5,
+        Instruction::Skip { test: _, length: _ } => 6,
+        Instruction::Spawn {
+            body: _,
+            footprint: _,
+        } => 7,
+        Instruction::Wait { place: _ } => 8,
+    }
+}
+
+// What comes of an access: its fault, else whether a task ahead stands in its way.
+fn access_of(run: Run, task: usize, place: usize, location: usize, asked: u8) -> Access
+    ensures { λ r. ⌜ AccessAs run task place location asked r ⌝ }
+{
+    let own = tables::mode_at(&run.modes, task, location);
+    let fault = tables::access_fault(own, asked);
+    let held = tables::held(&run.order, place, &run.modes, location, asked);
+    if fault != 0 {
+        return Access::Fault { fault };
+    }
+    if held {
+        return Access::Held;
+    }
+    Access::Free
+}
+
+// "Load needs reading"
+fn load_plan(run: Run, task: usize, place: usize, target: u8, from: u8) -> StepPlan
+    requires { ⌜ task < 128 ⌝ }
+    ensures { λ r. ⌜ Plans run task place (Load target from) r ⌝ }
+{
+    let own = run.records[task];
+    let registers = own.registers;
+    let location = tables::register_at(registers, from) as usize;
+    let found = access_of(run, task, place, location, 1);
+    match found {
+        Access::Fault { fault } => StepPlan::Fault { fault },
+        Access::Held => StepPlan::Held,
+        Access::Free => {
+            let memory = run.memory;
+            StepPlan::Assign {
+                target,
+                value: value_at(memory, location),
+            }
+        }
+    }
+}
+
+// "store needs writing"
+fn store_plan(run: Run, task: usize, place: usize, to: u8, source: u8) -> StepPlan
+    requires { ⌜ task < 128 ⌝ }
+    ensures { λ r. ⌜ Plans run task place (Store to source) r ⌝ }
+{
+    let own = run.records[task];
+    let registers = own.registers;
+    let location = tables::register_at(registers, to) as usize;
+    let found = access_of(run, task, place, location, 2);
+    match found {
+        Access::Fault { fault } => StepPlan::Fault { fault },
+        Access::Held => StepPlan::Held,
+        Access::Free => StepPlan::Store {
+            location,
+            value: tables::register_at(registers, source),
+        },
+    }
+}
+
+// "wait needs what the job's own mode there allows"
+fn wait_plan(run: Run, task: usize, place: usize, at: u8) -> StepPlan
+    requires { ⌜ task < 128 ⌝ }
+    ensures { λ r. ⌜ Plans run task place (Wait at) r ⌝ }
+{
+    let own = run.records[task];
+    let registers = own.registers;
+    let location = tables::register_at(registers, at) as usize;
+    let asked = tables::mode_at(&run.modes, task, location);
+    let found = access_of(run, task, place, location, asked);
+    match found {
+        Access::Fault { fault } => StepPlan::Fault { fault },
+        Access::Held => StepPlan::Held,
+        Access::Free => StepPlan::Pass { over: 0 },
+    }
+}
+
+// "Const, add, sub, less, skip and spawn never wait." The others are not asked of here.
+fn free_plan(registers: [u32; 4], instruction: Instruction) -> StepPlan
+    ensures { λ r. ⌜ FreeAs registers instruction r ⌝ }
+{
+    match instruction {
+        Instruction::Const { target, value } => StepPlan::Assign {
+            target,
+            value: constant(value),
+        },
+        Instruction::Add {
+            target,
+            left,
+            right,
+        } => {
+            let a = tables::register_at(registers, left);
+            let b = tables::register_at(registers, right);
+            StepPlan::Assign {
+                target,
+                value: std::num::wrapping_add_u32(a, b),
+            }
+        }
+        Instruction::Sub {
+            target,
+            left,
+            right,
+        } => {
+            let a = tables::register_at(registers, left);
+            let b = tables::register_at(registers, right);
+            StepPlan::Assign {
+                target,
+                value: difference(a, b),
+            }
+        }
+        Instruction::Less {
+            target,
+            left,
+            right,
+        } => {
+            let a = tables::register_at(registers, left);
+            let b = tables::register_at(registers, right);
+            StepPlan::Assign {
+                target,
+                value: less(a, b),
+            }
+        }
+        Instruction::Skip { test, length } => {
+            let a = tables::register_at(registers, test);
+            StepPlan::Pass {
+                over: passed_over(a, length),
+            }
+        }
+        Instruction::Spawn { body, footprint } => StepPlan::Spawn { body, footprint },
+        Instruction::Load {
+            target: _,
+            place: _,
+        } => StepPlan::Held,
+        Instruction::Store {
+            place: _,
+            source: _,
+        } => StepPlan::Held,
+        Instruction::Wait { place: _ } => StepPlan::Held,
+    }
+}
+
+// Load, store and wait. The others are not asked of here.
+fn waiting_plan(run: Run, task: usize, place: usize, instruction: Instruction) -> StepPlan
+    requires { ⌜ task < 128 ⌝ }
+    ensures { λ r. ⌜ WaitAs run task place instruction r ⌝ }
+{
+    match instruction {
+        Instruction::Load {
+            target,
+            place: from,
+        } => load_plan(run, task, place, target, from),
+        Instruction::Store { place: to, source } => store_plan(run, task, place, to, source),
+        Instruction::Wait { place: at } => wait_plan(run, task, place, at),
+        Instruction::Const {
+            target: _,
+            value: _,
+        } => StepPlan::Held,
+        Instruction::Add {
+            target: _,
+            left: _,
+            right: _,
+        } => StepPlan::Held,
+        Instruction::Sub {
+            target: _,
+            left: _,
+            right: _,
+        } => StepPlan::Held,
+        Instruction::Less {
+            target: _,
+            left: _,
+            right: _,
+        } => StepPlan::Held,
+        Instruction::Skip { test: _, length: _ } => StepPlan::Held,
+        Instruction::Spawn {
+            body: _,
+            footprint: _,
+        } => StepPlan::Held,
+    }
+}
+
+// What an instruction comes to: by its code, those that never wait together, then by its case.
+pub fn plan_of(
+    run: Run,
+    task: usize,
+    place: usize,
+    code: usize,
+    instruction: Instruction,
+) -> StepPlan
+    requires { ⌜ (task < 128) × (code ≡ getD (instruction-fields instruction) 0 0) ⌝ }
+    ensures { λ r. ⌜ Plans run task place instruction r ⌝ }
+{
+    match code {
+        0 | 1 | 2 | 3 | 6 | 7 => {
+            let own = run.records[task];
+            let registers = own.registers;
+            free_plan(registers, instruction)
+        }
+        _ => waiting_plan(run, task, place, instruction),
+    }
+}

@@ -46,7 +46,7 @@ pub fn at_end(run: Run, task: usize) -> bool
         return true;
     }
     let tables = run.tables;
-    let size = tasklist::body_size(tables, own.body as usize);
+    let size = listing::body_size(tables, own.body as usize);
     size <= own.pc as usize
 }
 

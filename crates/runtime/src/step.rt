@@ -61,7 +61,7 @@ pub fn step_plan(run: Run, task: u32) -> Stepping
                 };
             }
             let tables = run.tables;
-            let instruction = tasklist::instruction_at(tables, own.body as usize, own.pc as usize);
+            let instruction = listing::instruction_at(tables, own.body as usize, own.pc as usize);
             let code = code_of(instruction);
             let plan = plan_of(run, n, place, code, instruction);
             if is_held(plan) {

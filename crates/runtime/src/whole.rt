@@ -48,7 +48,7 @@ fn most_steps(run: Run, task: usize) -> usize
 {
     let own = run.records[task];
     let tables = run.tables;
-    let size = tasklist::body_size(tables, own.body as usize);
+    let size = listing::body_size(tables, own.body as usize);
     if 32 < size {
         return 33;
     }
@@ -126,7 +126,7 @@ pub fn sequential(list: &[u8], memory: &[u32]) -> Opened
         return opened;
     }
     let tables = fresh.tables;
-    let bodies = tasklist::body_count(tables);
+    let bodies = listing::body_count(tables);
     let run = run_whole(fresh, 0, bodies);
     Opened {
         answer: OpenAnswer::Accepted,

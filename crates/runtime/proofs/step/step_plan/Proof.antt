@@ -21,7 +21,7 @@ use Rattle.runtime.proofs.calls.place_of.Reads as place-of-reads
 use Rattle.runtime.proofs.parts.code_of.Reads as code-of-reads
 use Rattle.runtime.proofs.parts.plan_of.Reads as plan-of-reads
 use Rattle.runtime.proofs.step.is_held.Reads as is-held-reads
-use Rattle.tasklist.proofs.instruction_at.Reads as instruction-at-reads
+use Rattle.listing.proofs.instruction_at.Reads as instruction-at-reads
 
 place-of-requires : tie.Need-place-of-requires
 place-of-requires c κs = search needs

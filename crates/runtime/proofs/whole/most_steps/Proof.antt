@@ -4,7 +4,7 @@ use Rattle.runtime.proofs.whole.most_steps.Statement.{statement}
 use Rattle.runtime.proofs.whole.most_steps.Tie as tie
 use Rattle.runtime.proofs.whole.most_steps.Reads as reads
 use Rattle.runtime.proofs.whole.most_steps.Lts as lts
-use Rattle.tasklist.proofs.body_size.Reads as body-size-reads
+use Rattle.listing.proofs.body_size.Reads as body-size-reads
 
 -- src/whole.rt:49:15
 mul-own : tie.Need-mul-own

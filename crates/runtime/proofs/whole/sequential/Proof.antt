@@ -7,7 +7,7 @@ use Rattle.runtime.proofs.whole.sequential.Reads as reads
 use Rattle.runtime.proofs.whole.sequential.Lts as lts
 use Rattle.runtime.proofs.opening.open.Reads as open-reads
 use Rattle.runtime.proofs.whole.run_whole.Reads as run-whole-reads
-use Rattle.tasklist.proofs.body_count.Reads as body-count-reads
+use Rattle.listing.proofs.body_count.Reads as body-count-reads
 
 -- src/whole.rt:122:9
 open-requires : tie.Need-open-requires

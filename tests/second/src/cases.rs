@@ -888,6 +888,17 @@ pub const STRATEGIES: [Strategy; 6] = [
     Strategy::LateEnds,
 ];
 
+/// The kind of an unended job's only possible next call; it may be held back.
+fn next_kind(run: &Run, task: usize) -> u8 {
+    if run.records[task].state == WAITING {
+        0
+    } else if at_its_end(run, task) {
+        2
+    } else {
+        1
+    }
+}
+
 /// An accepted call, none when there is none: each job's only possible next call, in the order that
 /// the strategy prefers.
 pub fn sensible_call(rng: &mut Rng, strategy: Strategy, run: &Run, last: u32) -> Option<(u8, u32)> {
@@ -911,12 +922,11 @@ pub fn sensible_call(rng: &mut Rng, strategy: Strategy, run: &Run, last: u32) ->
     }
     for task in tasks {
         let number = task as u32;
-        let (kind, answer) = if run.records[task].state == WAITING {
-            (0, test_start(run, number))
-        } else if at_its_end(run, task) {
-            (2, test_end(run, number))
-        } else {
-            (1, test_step(run, number))
+        let kind = next_kind(run, task);
+        let answer = match kind {
+            0 => test_start(run, number),
+            1 => test_step(run, number),
+            _ => test_end(run, number),
         };
         if answer.is_ok() {
             return Some((kind, number));
@@ -927,6 +937,10 @@ pub fn sensible_call(rng: &mut Rng, strategy: Strategy, run: &Run, last: u32) ->
 
 /// Any call, mostly one that is refused.
 pub fn any_call(rng: &mut Rng, run: &Run) -> (u8, u32) {
+    if rng.percent(30) && !run.order.is_empty() {
+        let task = rng.pick(&run.order);
+        return (next_kind(run, task), task as u32);
+    }
     let kind = rng.below(3) as u8;
     let task = match rng.below(11) {
         0 => rng.between(128, 255) as u32,

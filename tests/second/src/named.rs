@@ -12,7 +12,7 @@ use crate::run::open;
 
 /// The stored file of cases is made with these.
 pub const STORED_SEED: u64 = 1;
-pub const STORED_COUNT: usize = 60;
+pub const STORED_COUNT: usize = 54;
 
 /// P's library.
 pub const LIBRARY_P: [u32; 2] = [5, 7];

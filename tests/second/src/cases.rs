@@ -2,7 +2,8 @@
 
 use crate::coordinator::{call, open_files};
 use crate::list::{
-    check, encode, encode_instruction, task_count, Instruction, Line, TaskList, COUNT_CAP,
+    check, encode, encode_instruction, task_count, task_counts, Instruction, Line, TaskList,
+    COUNT_CAP,
 };
 use crate::rng::Rng;
 use crate::run::{at_its_end, test_end, test_start, test_step, Run, NONE, READ, WAITING, WRITE};
@@ -273,6 +274,8 @@ struct Draft<'a> {
     s: usize,
     /// The modes that its jobs most likely have.
     own: Vec<u8>,
+    /// The counts of the bodies above s.
+    counts: Vec<u64>,
 }
 
 /// The instructions of body s; the bodies above s are already made.
@@ -299,6 +302,7 @@ fn random_body(
         homes,
         s,
         own: likely_modes(list, homes, s),
+        counts: task_counts(list),
     };
     let mut count = 1;
     let mut body = Vec::new();
@@ -323,7 +327,7 @@ fn random_body(
         }
         for instruction in group {
             if let Instruction::Spawn { body: a, .. } = instruction {
-                count += task_count(list, a as usize);
+                count += draft.counts[a as usize];
             }
             body.push(instruction);
         }
@@ -350,7 +354,7 @@ fn spawn_group(rng: &mut Rng, draft: &Draft, room: u64) -> Vec<Instruction> {
     let tame = rng.percent(shape.tame_percent);
     let mut targets = Vec::new();
     for a in draft.s + 1..shape.bodies {
-        if task_count(list, a) <= room {
+        if draft.counts[a] <= room {
             targets.push(a);
         }
     }
@@ -371,7 +375,7 @@ fn spawn_group(rng: &mut Rng, draft: &Draft, room: u64) -> Vec<Instruction> {
     let mut a = rng.pick(&targets);
     if shape.fill && draft.s == 0 {
         for other in &targets {
-            if task_count(list, *other) > task_count(list, a) {
+            if draft.counts[*other] > draft.counts[a] {
                 a = *other;
             }
         }

@@ -355,7 +355,13 @@ fn trees() -> Vec<Case> {
     ));
     cases.push(whole(&passed_over, &[5]));
     cases.push(queue_of_128());
-    cases.push(longest_list());
+    let library: Vec<u32> = (0..64).map(|entry| 1000 + entry).collect();
+    cases.push(case(
+        &longest_list(),
+        &library,
+        "start 0, step 0, step 0, step 0, step 0, start 1, start 2, step 2, step 1, step 0, step 0, \
+         start 3, end 3",
+    ));
     cases
 }
 
@@ -377,7 +383,7 @@ fn queue_of_128() -> Case {
 }
 
 /// 4,805 bytes; sheet 0 spawns the last only, the sheets between have counts beyond any machine word.
-fn longest_list() -> Case {
+pub fn longest_list() -> Vec<u8> {
     let mut footprints = Vec::new();
     for f in 0..32u8 {
         let line = |i| Line {
@@ -397,18 +403,11 @@ fn longest_list() -> Case {
     let load = Instruction::Load { a: 1, b: 0 };
     let store = Instruction::Store { a: 0, b: 1 };
     bodies.push([load, store].repeat(16));
-    let bytes = encode(&TaskList {
+    encode(&TaskList {
         locations: 64,
         footprints,
         bodies,
-    });
-    let library: Vec<u32> = (0..64).map(|entry| 1000 + entry).collect();
-    case(
-        &bytes,
-        &library,
-        "start 0, step 0, step 0, step 0, step 0, start 1, start 2, step 2, step 1, step 0, step 0, \
-         start 3, end 3",
-    )
+    })
 }
 
 fn refused_lists() -> Vec<Case> {

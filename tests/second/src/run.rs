@@ -475,11 +475,11 @@ fn run_whole(run: &mut Run, task: usize) {
     start(run, task as u32).expect("the hand run's start is accepted");
     while !at_its_end(run, task) {
         let instruction = instruction_at(run, task);
-        let child = child_number(run, task, run.records[task].pc);
+        let pc = run.records[task].pc;
         step(run, task as u32).expect("the hand run's step is accepted");
         let faulted = run.records[task].fault != 0;
         if matches!(instruction, Instruction::Spawn { .. }) && !faulted {
-            run_whole(run, child);
+            run_whole(run, child_number(run, task, pc));
         }
     }
     end(run, task as u32).expect("the hand run's end is accepted");

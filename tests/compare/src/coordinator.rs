@@ -143,11 +143,12 @@ const PAUSE: Duration = Duration::from_micros(300);
 
 impl Program {
     pub fn new(path: &Path, arguments: &[String]) -> std::io::Result<Program> {
+        let path = path.canonicalize()?;
         let name = format!("compare_coordinator_{}", std::process::id());
         let folder = std::env::temp_dir().join(name);
         std::fs::create_dir_all(&folder)?;
         Ok(Program {
-            path: path.canonicalize()?,
+            path,
             arguments: arguments.to_vec(),
             folder,
         })

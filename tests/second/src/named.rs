@@ -427,6 +427,7 @@ fn refused_lists() -> Vec<Case> {
         let library = vec![3; locations as usize];
         cases.push(case(&head(locations), &library, "start 0, end 0"));
     }
+    cases.push(case(&head(64), &[3; 65], ""));
     // Footprint counts and lines: at the limit, and beyond it.
     let footprint = |bytes: &[u8]| {
         let start = [0x4A, 0x48, 2, 1, 1, 0x4A, 0x46];

@@ -5,7 +5,7 @@ use std::time::Duration;
 use second::cases::{alterations, damaged_list, hex, library_bytes, list_case, random_library};
 use second::cases::{random_list, too_many_tasks, EXAMPLE_P};
 use second::list::decode_records;
-use second::named::longest_list;
+use second::named::{deepest_list, longest_list};
 use second::rng::Rng;
 use second::{encode, preview_check, preview_hand_run};
 
@@ -208,13 +208,14 @@ pub fn lists(seed: u64) -> impl Iterator<Item = Lent> {
     let mut lists = Vec::new();
     for i in 0..240 {
         lists.push(whole(match i % 12 {
-            0 => EXAMPLE_P.to_vec(),
+            0 => rng.pick(&[&EXAMPLE_P[..], &deepest_list()]).to_vec(),
             refusal @ 1..=7 => damaged_list(&mut rng, refusal),
             _ => encode(&random_list(&mut rng)),
         }));
     }
     let mut bases = vec![
         EXAMPLE_P.to_vec(),
+        deepest_list(),
         longest_list(),
         encode(&too_many_tasks(&mut rng)),
     ];
@@ -384,6 +385,7 @@ fn smaller_cases(case: &Case) -> impl Iterator<Item = Case> {
         smaller.list.bytes = list;
         let length = smaller.library.bytes.len().saturating_sub(4);
         smaller.library.bytes.truncate(length);
+        plain.push(smaller.clone());
         smaller.result = smaller.result.saturating_sub(4);
         plain.push(smaller);
     }

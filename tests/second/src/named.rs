@@ -12,7 +12,7 @@ use crate::run::open;
 
 /// The stored file of cases is made with these.
 pub const STORED_SEED: u64 = 1;
-pub const STORED_COUNT: usize = 54;
+pub const STORED_COUNT: usize = 52;
 
 /// P's library.
 pub const LIBRARY_P: [u32; 2] = [5, 7];
@@ -355,6 +355,11 @@ fn trees() -> Vec<Case> {
     ));
     cases.push(whole(&passed_over, &[5]));
     cases.push(queue_of_128());
+    cases.push(case(
+        &deepest_list(),
+        &[5],
+        "start 0, step 0, start 1, step 1, start 0, start 2, end 0",
+    ));
     let library: Vec<u32> = (0..64).map(|entry| 1000 + entry).collect();
     cases.push(case(
         &longest_list(),
@@ -406,6 +411,17 @@ pub fn longest_list() -> Vec<u8> {
     encode(&TaskList {
         locations: 64,
         footprints,
+        bodies,
+    })
+}
+
+/// 32 sheets, each but the last spawning the next, which writes too: the deepest tree.
+pub fn deepest_list() -> Vec<u8> {
+    let mut bodies: Vec<Vec<Instruction>> = (1..32).map(|next| vec![spawn(next, 0)]).collect();
+    bodies.push(vec![constant(1, 9), Instruction::Store { a: 0, b: 1 }]);
+    encode(&TaskList {
+        locations: 1,
+        footprints: vec![vec![write_line(0)]],
         bodies,
     })
 }

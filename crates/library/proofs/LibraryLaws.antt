@@ -2,8 +2,8 @@
 use Prim.Native.Nat.{ℕ, zero, suc, _+_, _*_, _/_, _%_, _^_, _≤_, _<_, zero-le, min}
 use mathlib.Core.Path.{_≡_, refl, sym, ap, _∙_}
 use mathlib.Core.List.{List, [], _∷_, _++_, append-assoc}
-use mathlib.Core.Bool.{Bool, true, false}
-use lib.Dec.{leb}
+use mathlib.Core.Bool.{Bool, true, false, cond}
+use lib.Dec.{leb, eqb}
 use native.Mathlib.Omega.{arith}
 use native.Mathlib.Numerals.{add-one}
 use native.Mathlib.Nat.{add-zero, zero-add, add-suc, suc-add, div-div-eq-div-mul, mod-eq-of-lt}
@@ -79,6 +79,24 @@ fitting-is bytes = by-size (leb (length bytes) 256) refl
     by-size false e =
         let long : 256 < length bytes = leb-false (length bytes) 256 e in
         apart (fitting-long bytes long) (λ locations some few h. omega (arith, fits-only bytes locations some h))
+
+-- what is given where the memory fits a list of 1 to 64 locations is the same of both
+pub fits-alike :
+    {A : Type 0} (bytes : List ℕ) (locations : ℕ) (give : List ℕ → A) (deny : A) → 1 ≤ locations → locations ≤ 64
+    → cond (eqb (length (fitting bytes)) locations) (give (fitting bytes)) deny
+    ≡ cond (eqb (length (memory-of bytes)) locations) (give (memory-of bytes)) deny
+fits-alike {A} bytes locations give deny some few = by-fit (fitting-is bytes)
+  where
+    asked : List ℕ → A
+    asked m = cond (eqb (length m) locations) (give m) deny
+
+    by-fit : Fitting bytes → asked (fitting bytes) ≡ asked (memory-of bytes)
+    by-fit (same e) = ap asked e
+    by-fit (apart e other) =
+        let none-read : eqb 0 locations ≡ false = ne-eqb 0 locations (λ z. omega arith) in
+        let unfit : eqb (length (memory-of bytes)) locations ≡ false =
+        ne-eqb (length (memory-of bytes)) locations (λ z. other locations some few z) in
+        ap asked e ∙ ap (λ t. cond t (give []) deny) none-read ∙ sym (ap (λ t. cond t (give (memory-of bytes)) deny) unfit)
 
 -- the number at a place of the library
 pub numbers-at :

@@ -1,0 +1,3 @@
+-- Laws of the two functions.
+pub mod RefusalLaws
+pub mod PreviewLaws

@@ -120,6 +120,17 @@ numbers-at (a ∷ b ∷ c ∷ d ∷ rest) (suc i) h =
       behind (4 * suc i + 3) (4 * i + 3) (omega arith),
     )
 
+-- the numbers of bytes have 32 bits
+pub numbers-small :
+    (bytes : List ℕ) → ((i : ℕ) → getD bytes i 0 < 256) → (i : ℕ) → getD (numbers-of bytes) i 0 < 2 ^ 32
+unfolding numbers-of number-of
+numbers-small [] h i = omega arith
+numbers-small (a ∷ []) h i = omega arith
+numbers-small (a ∷ b ∷ []) h i = omega arith
+numbers-small (a ∷ b ∷ c ∷ []) h i = omega arith
+numbers-small (a ∷ b ∷ c ∷ d ∷ rest) h zero = omega (arith, h 0, h 1, h 2, h 3)
+numbers-small (a ∷ b ∷ c ∷ d ∷ rest) h (suc i) = numbers-small rest (λ k. h (suc (suc (suc (suc k))))) i
+
 byte-off : (n : ℕ) → n ≡ n % 256 + 256 * (n / 256)
 byte-off n = omega arith
 

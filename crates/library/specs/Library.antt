@@ -29,7 +29,7 @@ bytes-of [] = []
 bytes-of (n ∷ ns) = number-bytes n ++ bytes-of ns
 
 -- The memory that a library holds (document 01: the entries); none where its length is no multiple of 4. No list has
--- C = 0, so that "a length other than 4 × C" is a memory of other than C numbers (proofs/LibraryLaws, fits-exactly).
+-- C = 0, so that "a length other than 4 × C" is a memory of other than C numbers (proofs/LibraryLaws, fits-length and fits-only).
 unfoldable pub memory-of : List ℕ → List ℕ
 memory-of bytes = cond (eqb (length bytes % 4) 0) (numbers-of bytes) []
 

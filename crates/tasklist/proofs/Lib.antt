@@ -13,3 +13,4 @@ pub mod Guarantees
 pub mod RoundTrip
 pub mod Longest
 pub mod Complete
+pub mod RefusalLaws

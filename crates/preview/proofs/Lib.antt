@@ -1,0 +1,3 @@
+-- Laws of the two functions.
+pub mod PreviewLaws
+pub mod WordingLaws

@@ -1,0 +1,28 @@
+-- A part of the numbers is lent.
+-- Assumes nothing.
+use mathlib.Core.Path.{sym}
+use native.Mathlib.Omega.{arith}
+use lib.Seq.{length-take-le}
+use borrow.Author.Needs.{needs}
+use Rattle.preview.proofs.ran.Statement.{statement}
+use Rattle.preview.proofs.ran.Tie as tie
+
+array-share-prefix-values : tie.Need-array-share-prefix-values
+array-share-prefix-values c = search needs
+
+slice-aggregate-sequential : tie.Need-slice-aggregate-sequential
+slice-aggregate-sequential c =
+    let start = c .before .before .before in
+    let numbers = start .args .numbers in
+    sym (length-take-le (numbers .count) (numbers .values) (omega (arith, start .pre .0, start .pre .1)))
+
+sequential-requires : tie.Need-sequential-requires
+sequential-requires c κs = search needs
+
+returns : tie.Need-returns
+returns c = c .sequential .ensures
+
+pub ran-spec : {M : Type 1} → statement M
+ran-spec =
+    tie.close
+    (tie.spec array-share-prefix-values slice-aggregate-sequential sequential-requires returns)

@@ -1,0 +1,2 @@
+-- What the two functions for C give.
+pub mod Preview

@@ -24,8 +24,8 @@ mod tests {
     #[test]
     fn the_stored_cases_are_those_of_the_second_implementation() {
         let cases = stored_cases(STORED_SEED, STORED_COUNT);
-        assert!(encode_cases(&cases) == include_bytes!("../../cases/cases.bin"));
-        assert!(cases_output(&cases) == include_str!("../../cases/expected"));
+        assert!(encode_cases(&cases) == include_bytes!("../../../crates/casecheck/data/cases.bin"));
+        assert!(cases_output(&cases) == include_str!("../../../crates/casecheck/stdout"));
     }
 
     #[test]

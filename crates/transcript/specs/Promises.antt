@@ -14,11 +14,16 @@ use Rattle.transcript.specs.declared.Made.{Made}
 use Rattle.transcript.specs.declared.Pending.{Pending}
 use Rattle.transcript.specs.declared.Pending.the-variants.{Nothing, Kind}
 use Rattle.transcript.specs.declared.Fed.{Fed}
-use Rattle.transcript.specs.Transcript.{line, number-of, call-line, call-run}
+use Rattle.transcript.specs.Transcript.{line, number-of, call-line, call-run, refused-line}
 
 -- these bytes where the slice has so many places, else none
 unfoldable pub given : ℕ → List ℕ → List ℕ → List ℕ
 given room out bytes = cond (leb room (length out)) bytes []
+
+-- the line of a failed open; none where it accepts, which is 0
+unfoldable pub open-bytes : ℕ → List ℕ
+open-bytes zero = []
+open-bytes (suc k) = refused-line (suc k)
 
 -- n bytes were written at the front of a lent slice, and the rest of it is as it was
 pub record Wrote (bytes before after : List ℕ) (n : ℕ) : Type 0 where

@@ -5,10 +5,12 @@ use mathlib.Core.List.{List, [], _∷_, _++_}
 use mathlib.Core.Bool.{cond}
 use lib.ListN.{length}
 use lib.Dec.{ltb}
+use Rattle.tasklist.specs.Decode.{decode}
 use Rattle.tasklist.specs.Encode.{joined}
-use Rattle.semantics.specs.Run.{Run, Context}
+use Rattle.library.specs.Library.{memory-of}
+use Rattle.semantics.specs.Run.{Run, Context, initial}
 use Rattle.semantics.specs.Call.{Call, decide, after-all}
-use Rattle.semantics.specs.Operations.{Asked, denies, gives}
+use Rattle.semantics.specs.Operations.{Asked, denies, gives, with-list}
 use Rattle.semantics.specs.Answers.{outcome-number}
 use Rattle.runtime.specs.Replays.{calls-of-kind}
 
@@ -64,3 +66,9 @@ refused-line k = 114 ∷ 101 ∷ 102 ∷ 117 ∷ 115 ∷ 101 ∷ 100 ∷ 32 ∷ 
 unfoldable pub printed : Asked (List ℕ) → List ℕ
 printed (denies k) = refused-line k
 printed (gives lines) = lines
+
+-- The whole output, by the bytes of jobs.bin, library.bin and standard input: open asks as ever, "as check, then 8".
+unfoldable pub transcript : List ℕ → List ℕ → List ℕ → List ℕ
+transcript jobs library input =
+    let memory = memory-of library in
+    printed (with-list (decode jobs) memory (λ c. lines-from c (initial c memory) input))

@@ -25,9 +25,13 @@ pub struct Fed {
 
 mod closing;
 mod decimal;
+mod opening;
 mod pieces;
 
 pub use closing::closing_lines;
 pub use closing::half_line;
+pub use opening::open_files;
+pub use opening::open_line;
+pub use opening::open_number;
 pub use pieces::feed;
 pub use pieces::make_call;

@@ -1,0 +1,2 @@
+-- Laws of a library's numbers.
+pub mod LibraryLaws

@@ -1,0 +1,2 @@
+-- The numbers of a library file.
+pub mod Library

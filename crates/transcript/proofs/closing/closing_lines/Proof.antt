@@ -12,7 +12,7 @@ use Rattle.transcript.proofs.closing.closing_lines.Statement.{statement
 use Rattle.transcript.proofs.closing.closing_lines.Tie as tie
 
 returns : tie.Need-returns
-returns c = 
+returns c =
     let a = c .before .before .args in
     let bytes = closing (model (a .run)) in
     wrote-none (given 737 (now (a .out)) bytes) (now (a .out)) (no-room 737 (now (a .out)) bytes (c .if1 .taken))
@@ -30,7 +30,7 @@ same-length : tie.Need-same-length
 same-length c = search needs
 
 returns-2 : tie.Need-returns-2
-returns-2 c = 
+returns-2 c =
     let a = c .before .before .before .before .before .before .before .before .before .before .before .args in
     let memory = c .before .before .before .before .before .before .before .put-memory in
     let totals = c .before .before .put-totals in

@@ -15,7 +15,7 @@ use Rattle.transcript.proofs.closing.half_line.Statement.{statement}
 use Rattle.transcript.proofs.closing.half_line.Tie as tie
 
 returns : tie.Need-returns
-returns c = 
+returns c =
     let a = c .before .before .args in
     let bytes = half-bytes (a .pending) in
     wrote-none (given 3 (now (a .out)) bytes) (now (a .out)) (no-room 3 (now (a .out)) bytes (c .if1 .taken))
@@ -30,7 +30,7 @@ put-followed-requires : tie.Need-put-followed-requires
 put-followed-requires c κs = omega (arith, line-most 18 (omega arith), c .before .before .before .if1 .left)
 
 returns-2 : tie.Need-returns-2
-returns-2 c = 
+returns-2 c =
     let a = c .before .before .before .before .args in
     let bytes = half-bytes (a .pending) in
     wrote-none (given 3 (now (a .out)) bytes) (now (a .out))
@@ -40,7 +40,7 @@ same-length : tie.Need-same-length
 same-length c = search needs
 
 returns-3 : tie.Need-returns-3
-returns-3 c = 
+returns-3 c =
     let a = c .before .before .before .before .before .before .before .before .args in
     let bytes = half-bytes (a .pending) in
     let put = c .before .before .put-followed in

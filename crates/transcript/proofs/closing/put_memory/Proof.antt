@@ -15,7 +15,7 @@ use Rattle.transcript.proofs.closing.put_memory.Statement.{statement}
 use Rattle.transcript.proofs.closing.put_memory.Tie as tie
 
 abbrev Inv-loop : tie.InvT-loop
-Inv-loop out₀ run n at₀ i₀ out at i = 
+Inv-loop out₀ run n at₀ i₀ out at i =
     (length (run .memory) ≡ 64) × (n ≡ min (run .tables .locations) 64) × (i ≤ n) × Lined (model run .memory) out₀ out at i
 
 abbrev μ-loop : tie.MeasureT-loop
@@ -25,7 +25,7 @@ places-requires : tie.Need-places-requires Inv-loop μ-loop
 places-requires c κs = search needs
 
 loop-holds : tie.Need-loop-holds Inv-loop μ-loop
-loop-holds c = 
+loop-holds c =
     let a = c .before .before .before .args in
     (search needs, c .places .ensures, omega arith, lined-none (model (a .t1) .memory) (now (a .out)))
 
@@ -39,7 +39,7 @@ plain-requires : tie.Need-plain-requires Inv-loop μ-loop
 plain-requires c κs = search needs
 
 put-followed-requires : tie.Need-put-followed-requires Inv-loop μ-loop
-put-followed-requires c κs = 
+put-followed-requires c κs =
     let l = c .before .before .before .before .loop in
     let a = c .before .before .before .before .before .before .before .before .args in
     let number = c .plain in
@@ -62,15 +62,14 @@ loop-less : tie.Need-loop-less Inv-loop μ-loop
 loop-less c = search needs
 
 loop-again : tie.Need-loop-again Inv-loop μ-loop
-loop-again c = 
+loop-again c =
     let l = c .before .before .before .before .before .before .before .loop in
     let a = c .before .before .before .before .before .before .before .before .before .before .before .args in
     let number = c .before .before .before .plain in
     let put = c .before .before .put-followed in
     let n = c .before .before .before .before .before .before .before .before .places .result in
     let long = memory-long (a .t1) (l .inv .0) n (l .inv .1) in
-    let inside : l .i < length (model (a .t1) .memory) = omega (arith, long, c .before .before .before .before .before .before .loop-test .taken) in
-    (
+    let inside : l .i < length (model (a .t1) .memory) = omega (arith, long, c .before .before .before .before .before .before .loop-test .taken) in (
       l .inv .0,
       l .inv .1,
       omega (arith, c .before .before .before .before .before .before .loop-test .taken),
@@ -80,13 +79,13 @@ loop-again c =
     )
 
 same-length : tie.Need-same-length Inv-loop μ-loop
-same-length c = 
+same-length c =
     let l = c .before .loop in
     let a = c .before .before .before .before .before .args in
     ap length (l .inv .3 .places) ∙ length-sets (now (a .out)) 0 (joined line (take (l .i) (model (a .t1) .memory)))
 
 returns : tie.Need-returns Inv-loop μ-loop
-returns c = 
+returns c =
     let l = c .before .loop in
     let a = c .before .before .before .before .before .args in
     let n = c .before .before .places .result in

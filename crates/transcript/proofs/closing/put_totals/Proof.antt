@@ -13,13 +13,13 @@ use Rattle.transcript.proofs.closing.put_totals.Statement.{statement}
 use Rattle.transcript.proofs.closing.put_totals.Tie as tie
 
 put-followed-requires : tie.Need-put-followed-requires
-put-followed-requires c κs = 
+put-followed-requires c κs =
     let a = c .before .before .args in
     let calls : a .calls < 2 ^ 32 = search needs in
     omega (arith, followed-most (a .calls) 32 calls, c .before .before .pre)
 
 put-followed-requires-2 : tie.Need-put-followed-requires-2
-put-followed-requires-2 c κs = 
+put-followed-requires-2 c κs =
     let a = c .before .before .before .before .before .before .args in
     let calls : a .calls < 2 ^ 32 = search needs in
     let weight : a .weight < 2 ^ 32 = search needs in
@@ -35,7 +35,7 @@ put-followed-requires-2 c κs =
     )
 
 put-followed-requires-3 : tie.Need-put-followed-requires-3
-put-followed-requires-3 c κs = 
+put-followed-requires-3 c κs =
     let a = c .before .before .before .before .before .before .before .before .before .before .args in
     let calls : a .calls < 2 ^ 32 = search needs in
     let weight : a .weight < 2 ^ 32 = search needs in
@@ -57,7 +57,7 @@ put-followed-requires-3 c κs =
     )
 
 same-length : tie.Need-same-length
-same-length c = 
+same-length c =
     let a = c .before .before .before .before .before .before .before .before .before .before .before .before .before .args in
     let one = c .before .before .before .before .before .before .before .before .before .before .put-followed in
     let two = c .before .before .before .before .before .before .put-followed2 in
@@ -67,15 +67,14 @@ same-length c =
     ∙ ap length (one .ensures .1) ∙ length-sets (now (a .out)) (a .at) (followed (a .calls) 32)
 
 returns : tie.Need-returns
-returns c = 
+returns c =
     let a = c .before .before .before .before .before .before .before .before .before .before .before .before .before .args in
     let one = c .before .before .before .before .before .before .before .before .before .before .put-followed in
     let two = c .before .before .before .before .before .before .put-followed2 in
     let three = c .before .before .put-followed3 in
     let calls : a .calls < 2 ^ 32 = search needs in
     let weight : a .weight < 2 ^ 32 = search needs in
-    let left : a .left < 2 ^ 32 = search needs in
-    (
+    let left : a .left < 2 ^ 32 = search needs in (
       omega (arith, totals-length (a .calls) (a .weight) (a .left), one .ensures .0, two .ensures .0, three .ensures .0),
       omega (
         arith,

@@ -44,7 +44,7 @@ put-decimal-slice-write-out : (t : ℕ) → put-decimal-lts.Need-slice-write-out
   put-decimal-below t,
   put-decimal.Post,
 ) (put-decimal-at t) put-decimal.Post
-put-decimal-slice-write-out t c = 
+put-decimal-slice-write-out t c =
     let a = c .before .before .args in omega (arith, ap length (digits-one (a .n) (c .if1 .taken)), c .before .before .pre .1)
 
 put-decimal-add-result : (t : ℕ) → put-decimal-lts.Need-add-result (
@@ -63,7 +63,7 @@ put-decimal-returns : (t : ℕ) → put-decimal-lts.Need-returns (
   put-decimal-below t,
   put-decimal.Post,
 ) (put-decimal-at t) put-decimal.Post
-put-decimal-returns t c = 
+put-decimal-returns t c =
     let a = c .before .before .args in
     (omega (arith, ap length (digits-one (a .n) (c .if1 .taken))), put-one (now (a .out)) (a .at) (a .n) (c .if1 .taken))
 
@@ -71,10 +71,9 @@ put-decimal-put-decimal-requires : (t : ℕ) → put-decimal-lts.Need-put-decima
   put-decimal-below t,
   put-decimal.Post,
 ) (put-decimal-at t) put-decimal.Post
-put-decimal-put-decimal-requires t c κs = 
+put-decimal-put-decimal-requires t c κs =
     let a = c .before .before .before .args in
-    let big = c .before .if1 .left in
-    (
+    let big = c .before .if1 .left in (
       subst (λ (k : ℕ). a .n / 10 < k) (c .before .before .before .pre .0) (omega arith),
       omega (arith, more-length (now (a .out)) (a .at) (a .n) big, c .before .before .before .pre .1),
     )
@@ -95,7 +94,7 @@ put-decimal-slice-write-out-2 : (t : ℕ) → put-decimal-lts.Need-slice-write-o
   put-decimal-below t,
   put-decimal.Post,
 ) (put-decimal-at t) put-decimal.Post
-put-decimal-slice-write-out-2 t c = 
+put-decimal-slice-write-out-2 t c =
     let a = c .before .before .before .before .before .before .args in
     let put = c .before .before .put-decimal in
     omega (
@@ -111,7 +110,7 @@ put-decimal-add-result-2 : (t : ℕ) → put-decimal-lts.Need-add-result-2 (
   put-decimal-below t,
   put-decimal.Post,
 ) (put-decimal-at t) put-decimal.Post
-put-decimal-add-result-2 t c = 
+put-decimal-add-result-2 t c =
     let a = c .before .before .before .before .before .before .args in
     let put = c .before .before .put-decimal in
     omega (
@@ -132,11 +131,10 @@ put-decimal-returns-2 : (t : ℕ) → put-decimal-lts.Need-returns-2 (
   put-decimal-below t,
   put-decimal.Post,
 ) (put-decimal-at t) put-decimal.Post
-put-decimal-returns-2 t c = 
+put-decimal-returns-2 t c =
     let a = c .before .before .before .before .before .before .args in
     let put = c .before .before .put-decimal in
-    let big = c .before .before .before .before .if1 .left in
-    (
+    let big = c .before .before .before .before .if1 .left in (
       omega (arith, more-length (now (a .out)) (a .at) (a .n) big, put .ensures .0),
       put-more (now (a .out)) (a .at) (a .n) (put .last .0) (put .result) big (put .ensures .1) (put .ensures .0),
     )

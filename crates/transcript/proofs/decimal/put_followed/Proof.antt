@@ -12,11 +12,11 @@ use Rattle.transcript.proofs.decimal.put_followed.Statement.{statement}
 use Rattle.transcript.proofs.decimal.put_followed.Tie as tie
 
 put-decimal-requires : tie.Need-put-decimal-requires
-put-decimal-requires c κs = 
+put-decimal-requires c κs =
     let a = c .before .before .args in omega (arith, followed-length (a .n) (a .behind), c .before .before .pre)
 
 slice-write-out : tie.Need-slice-write-out
-slice-write-out c = 
+slice-write-out c =
     let a = c .before .before .before .before .before .args in
     let put = c .before .before .put-decimal in
     omega (
@@ -29,7 +29,7 @@ slice-write-out c =
     )
 
 add-result : tie.Need-add-result
-add-result c = 
+add-result c =
     let a = c .before .before .before .before .before .args in
     let put = c .before .before .put-decimal in
     omega (arith, followed-length (a .n) (a .behind), c .before .before .before .before .before .pre, put .ensures .0, c .before .before .before .before .before .good .0 .0)
@@ -38,10 +38,9 @@ same-length : tie.Need-same-length
 same-length c = search needs
 
 returns : tie.Need-returns
-returns c = 
+returns c =
     let a = c .before .before .before .before .before .args in
-    let put = c .before .before .put-decimal in
-    (
+    let put = c .before .before .put-decimal in (
       omega (arith, followed-length (a .n) (a .behind), put .ensures .0),
       put-behind (now (a .out)) (put .last .0) (a .at) (a .n) (a .behind) (put .result) (put .ensures .1) (put .ensures .0),
     )

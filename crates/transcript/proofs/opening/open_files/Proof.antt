@@ -17,7 +17,7 @@ array-share-prefix-values : tie.Need-array-share-prefix-values
 array-share-prefix-values c = search needs
 
 slice-aggregate-open : tie.Need-slice-aggregate-open
-slice-aggregate-open c = 
+slice-aggregate-open c =
     let read = c .before .before .read-numbers in
     sym (length-take-le (read .result .count) (read .result .values) (omega (arith, read .ensures .whole, read .ensures .count)))
 
@@ -25,7 +25,7 @@ open-requires : tie.Need-open-requires
 open-requires c κs = search needs
 
 returns : tie.Need-returns
-returns c = 
+returns c =
     let a = c .before .before .before .before .before .before .args in
     let read = c .before .before .before .read-numbers in
     opened-by (now (a .jobs)) (now (a .numbers)) (take (read .result .count) (read .result .values)) (c .open .result) (read .ensures .values)

@@ -18,7 +18,7 @@ use Rattle.transcript.proofs.opening.open_line.Statement.{statement}
 use Rattle.transcript.proofs.opening.open_line.Tie as tie
 
 returns : tie.Need-returns
-returns c = 
+returns c =
     let a = c .before .before .args in
     let bytes = open-bytes (open-number (a .answer)) in
     wrote-none (given 11 (now (a .out)) bytes) (now (a .out)) (no-room 11 (now (a .out)) bytes (c .if1 .taken))
@@ -27,7 +27,7 @@ open-number-requires : tie.Need-open-number-requires
 open-number-requires c κs = search needs
 
 returns-2 : tie.Need-returns-2
-returns-2 c = 
+returns-2 c =
     let a = c .before .before .before .before .args in
     let bytes = open-bytes (open-number (a .answer)) in
     wrote-none (given 11 (now (a .out)) bytes) (now (a .out))
@@ -37,7 +37,7 @@ put-four-requires : tie.Need-put-four-requires
 put-four-requires c κs = omega (arith, c .before .before .before .if1 .left)
 
 put-four-requires-2 : tie.Need-put-four-requires-2
-put-four-requires-2 c κs = 
+put-four-requires-2 c κs =
     let a = c .before .before .before .before .before .before .before .before .before .args in
     omega (arith, c .before .before .before .before .before .before .before .if1 .left, ap length (c .before .before .before .put-four .ensures), length-sets (now (a .out)) 0 (114 ∷ 101 ∷ 102 ∷ 117 ∷ []))
 
@@ -45,7 +45,7 @@ cast-put-followed : tie.Need-cast-put-followed
 cast-put-followed c = search needs
 
 put-followed-requires : tie.Need-put-followed-requires
-put-followed-requires c κs = 
+put-followed-requires c κs =
     let a = c .before .before .before .before .before .before .before .before .before .before .before .before .before .args in
     let one = c .before .before .before .before .before .before .before .put-four in
     let two = c .before .before .before .put-four2 in
@@ -61,7 +61,7 @@ put-followed-requires c κs =
     )
 
 same-length : tie.Need-same-length
-same-length c = 
+same-length c =
     let a = c .before .before .before .before .before .before .before .before .before .before .before .before .before .before .before .before .args in
     let one = c .before .before .before .before .before .before .before .before .before .before .put-four in
     let two = c .before .before .before .before .before .before .put-four2 in
@@ -70,7 +70,7 @@ same-length c =
     ∙ ap length (two .ensures) ∙ length-sets (one .last .0) 4 (115 ∷ 101 ∷ 100 ∷ 32 ∷ []) ∙ ap length (one .ensures) ∙ length-sets (now (a .out)) 0 (114 ∷ 101 ∷ 102 ∷ 117 ∷ [])
 
 returns-3 : tie.Need-returns-3
-returns-3 c = 
+returns-3 c =
     let a = c .before .before .before .before .before .before .before .before .before .before .before .before .before .before .before .before .args in
     let one = c .before .before .before .before .before .before .before .before .before .before .put-four in
     let two = c .before .before .before .before .before .before .put-four2 in

@@ -28,9 +28,9 @@ returns c = (sym (ap open-number (c .enum-told .given .1)), omega arith)
 returns-2 : tie.Need-returns-2
 unfolding open-number
 returns-2 c = (
-      c .refusal-number .ensures ∙ sym (ap open-number (c .before .before .answer .given .1)),
-      subst (λ (k : ℕ). k ≤ 8) (sym (c .refusal-number .ensures)) (refusal-most (c .before .before .answer .given .0 .0)),
-    )
+  c .refusal-number .ensures ∙ sym (ap open-number (c .before .before .answer .given .1)),
+  subst (λ (k : ℕ). k ≤ 8) (sym (c .refusal-number .ensures)) (refusal-most (c .before .before .answer .given .0 .0)),
+)
 
 returns-3 : tie.Need-returns-3
 unfolding open-number

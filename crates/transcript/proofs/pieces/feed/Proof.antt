@@ -15,7 +15,7 @@ use Rattle.transcript.proofs.pieces.feed.Statement.{statement}
 use Rattle.transcript.proofs.pieces.feed.Tie as tie
 
 returns : tie.Need-returns
-returns c = 
+returns c =
     let a = c .before .before .before .args in
     fed-idle (a .run) (a .pending) (now (a .piece)) (now (a .out)) (short-of-room (a .run) (a .pending) (now (a .piece)) (now (a .out)) (c .if1 .taken))
 
@@ -23,14 +23,14 @@ enum-told : tie.Need-enum-told
 enum-told c = search needs
 
 paired-requires : tie.Need-paired-requires
-paired-requires c κs = 
+paired-requires c κs =
     let room = c .before .before .before .if1 .left in (zero-le, omega (arith, room))
 
 enum-known-pending : tie.Need-enum-known-pending
 enum-known-pending c = search needs
 
 returns-2 : tie.Need-returns-2
-returns-2 c = 
+returns-2 c =
     let a = c .before .before .before .before .before .before .before .args in
     fed-kept (a .run) (a .pending) (now (a .piece)) (now (a .out)) (Kind (c .before .before .pending .given .0 .0)) (c .before .before .pending .given .1) (all-used (a .run) (a .pending) (now (a .piece)) (now (a .out)) (c .before .before .before .before .if1 .left) ∙ c .if2 .taken)
 
@@ -44,17 +44,16 @@ cast-put-followed : tie.Need-cast-put-followed
 cast-put-followed c = search needs
 
 put-followed-requires : tie.Need-put-followed-requires
-put-followed-requires c κs = 
+put-followed-requires c κs =
     let done = c .before .before .make-call in
     omega (arith, line-most (done .result .number) (done .ensures .most), c .before .before .before .before .before .before .before .before .if1 .left)
 
 paired-requires-2 : tie.Need-paired-requires-2
-paired-requires-2 c κs = 
+paired-requires-2 c κs =
     let a = c .before .before .before .before .before .before .before .before .before .before .before .before .before .before .before .before .args in
     let done = c .before .before .before .before .before .before .before .make-call in
     let put = c .before .before .before .before .put-followed in
-    let some = pos-of-ne-zero (c .before .before .before .before .before .before .before .before .before .if2 .left) in
-    (
+    let some = pos-of-ne-zero (c .before .before .before .before .before .before .before .before .before .if2 .left) in (
       omega (arith, some),
       omega (
         arith,
@@ -71,18 +70,18 @@ same-length : tie.Need-same-length
 same-length c = c .before .before .paired .ensures .paired .long
 
 returns-3 : tie.Need-returns-3
-returns-3 c = 
+returns-3 c =
     let a = c .before .before .before .before .before .before .before .before .before .args in
     fed-first (a .run) (a .pending) (now (a .piece)) (now (a .out)) (c .before .before .paired .last .1 .1 .1 .0) (c .before .before .paired .result) (all-used (a .run) (a .pending) (now (a .piece)) (now (a .out)) (c .before .before .before .before .before .before .if1 .left)) (c .before .before .before .before .enum-told .given .1) (c .before .before .paired .ensures)
 
 same-length-2 : tie.Need-same-length-2
-same-length-2 c = 
+same-length-2 c =
     let put = c .before .before .before .before .before .before .before .put-followed in
     let done = c .before .before .before .before .before .before .before .before .before .before .make-call in
     c .before .before .paired2 .ensures .paired .long ∙ ap length (put .ensures .1) ∙ length-sets (now (c .before .before .before .before .before .before .before .before .before .before .before .before .before .before .before .before .before .before .before .args .out)) 0 (line (done .result .number))
 
 returns-4 : tie.Need-returns-4
-returns-4 c = 
+returns-4 c =
     let a = c .before .before .before .before .before .before .before .before .before .before .before .before .before .before .before .before .before .before .before .args in
     let put = c .before .before .before .before .before .before .before .put-followed in
     let done = c .before .before .before .before .before .before .before .before .before .before .make-call in

@@ -18,7 +18,7 @@ abbrev μ-loop : tie.MeasureT-loop
 μ-loop piece from out₀ start r₀ i₀ at₀ out r i at = length piece - i
 
 loop-holds : tie.Need-loop-holds Inv-loop μ-loop
-loop-holds c = 
+loop-holds c =
     let a = c .before .before .args in
     going-starts (a .run) (now (a .piece)) (a .from) (a .start) (now (a .out)) (c .before .before .pre .0) (c .before .before .pre .1)
 
@@ -32,7 +32,7 @@ same-length : tie.Need-same-length Inv-loop μ-loop
 same-length c = c .before .before .before .loop .inv .long
 
 returns : tie.Need-returns Inv-loop μ-loop
-returns c = 
+returns c =
     let a = c .before .before .before .before .before .before .args in
     let l = c .before .before .before .loop in
     paired-half (a .run) (now (a .piece)) (a .from) (a .start) (now (a .out)) (l .r) (l .i) (l .at) (l .out) (l .inv) (c .before .if1 .taken)
@@ -44,7 +44,7 @@ add-make-call : tie.Need-add-make-call Inv-loop μ-loop
 add-make-call c = search needs
 
 shared-slice-read-make-call-2 : tie.Need-shared-slice-read-make-call-2 Inv-loop μ-loop
-shared-slice-read-make-call-2 c = 
+shared-slice-read-make-call-2 c =
     let two = two-left (length (now (c .before .before .before .before .before .before .before .args .piece))) (c .before .before .before .before .loop .i) (c .before .before .before .loop-test .taken) (c .before .before .if1 .left) in omega arith
 
 make-call-requires : tie.Need-make-call-requires Inv-loop μ-loop
@@ -54,7 +54,7 @@ cast-put-followed : tie.Need-cast-put-followed Inv-loop μ-loop
 cast-put-followed c = search needs
 
 put-followed-requires : tie.Need-put-followed-requires Inv-loop μ-loop
-put-followed-requires c κs = 
+put-followed-requires c κs =
     let a = c .before .before .before .before .before .before .before .before .before .before .args in
     let l = c .before .before .before .before .before .before .before .loop in
     let two = two-left (length (now (a .piece))) (l .i) (c .before .before .before .before .before .before .loop-test .taken) (c .before .before .before .before .before .if1 .left) in
@@ -67,7 +67,7 @@ loop-less : tie.Need-loop-less Inv-loop μ-loop
 loop-less c = search needs
 
 loop-again : tie.Need-loop-again Inv-loop μ-loop
-loop-again c = 
+loop-again c =
     let a = c .before .before .before .before .before .before .before .before .before .before .before .before .before .before .args in
     let l = c .before .before .before .before .before .before .before .before .before .before .before .loop in
     let put = c .before .before .before .put-followed in
@@ -78,7 +78,7 @@ same-length-2 : tie.Need-same-length-2 Inv-loop μ-loop
 same-length-2 c = c .before .loop .inv .long
 
 returns-2 : tie.Need-returns-2 Inv-loop μ-loop
-returns-2 c = 
+returns-2 c =
     let a = c .before .before .before .before .args in
     let l = c .before .loop in
     paired-whole (a .run) (now (a .piece)) (a .from) (a .start) (now (a .out)) (l .r) (l .i) (l .at) (l .out) (l .inv) (c .loop-test .left)

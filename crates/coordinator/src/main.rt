@@ -34,10 +34,11 @@ fn read_open(file: i32, buf: &mut [u8]) -> FileRead
         if got < 0 {
             return FileRead::Unreadable;
         }
-        if got == 0 {
+        let n = io::count(got, &buf[done..]);
+        if n == 0 {
             return FileRead::Bytes(done);
         }
-        done += io::count(got, &buf[done..]);
+        done += n;
     }
     FileRead::Bytes(done)
 }
@@ -66,7 +67,7 @@ fn size_of(read: FileRead) -> usize
 }
 
 // Reads a piece of the input, makes its calls and prints their lines. A read that fails counts as the input's end.
-fn turn(run: Run, pending: Pending) -> Turn {
+fn take_turn(run: Run, pending: Pending) -> Turn {
     let mut piece = io::buffer();
     let got = libc::read(STDIN_FILENO, &mut piece);
     let n = io::count(got, &piece);
@@ -106,7 +107,7 @@ fn serve(run: Run) {
     let mut r = run;
     let mut pending = Pending::Nothing;
     while turns > 0 {
-        let t = turn(r, pending);
+        let t = take_turn(r, pending);
         r = t.run;
         pending = t.pending;
         if !t.more {

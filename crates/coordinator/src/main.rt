@@ -1,0 +1,137 @@
+// The coordinator: opens a run of jobs.bin and library.bin, makes the calls of standard input and prints a line for each.
+// It only moves bytes; what it prints comes from the crate `transcript`.
+ghost use Prim.Native.Nat.{_≤_};
+ghost use mathlib.Core.Path.{_≡_};
+ghost use lib.ListN.{length, take};
+ghost use Rattle.coordinator.specs.Files.{size-of, Within};
+use libc::STDIN_FILENO;
+use libc::STDOUT_FILENO;
+use runtime::Run;
+use transcript::Pending;
+
+// What came of reading a file.
+enum FileRead {
+    // It is missing, or an error came while it was read.
+    Unreadable,
+    // So many bytes from its start: all of it, unless the buffer is full.
+    Bytes(usize),
+}
+
+// A turn of the loop: the run and the pending byte after a piece of the input, and whether there was one.
+struct Turn {
+    run: Run,
+    pending: Pending,
+    more: bool,
+}
+
+// Reads a file that is open, up to its end or the buffer's.
+fn read_open(file: i32, buf: &mut [u8]) -> FileRead
+    ensures { λ r. ⌜ Within r (now (buf .exit)) ⌝ }
+{
+    let mut done = 0;
+    while done < buf.len() {
+        let got = libc::read(file, &mut buf[done..]);
+        if got < 0 {
+            return FileRead::Unreadable;
+        }
+        let n = io::count(got, &buf[done..]);
+        if n == 0 {
+            return FileRead::Bytes(done);
+        }
+        done += n;
+    }
+    FileRead::Bytes(done)
+}
+
+// Reads the file of a name from its start.
+fn read_file(name: &[u8], buf: &mut [u8]) -> FileRead
+    ensures { λ r. ⌜ Within r (now (buf .exit)) ⌝ }
+{
+    let file = os::open_read(name);
+    if file < 0 {
+        return FileRead::Unreadable;
+    }
+    let read = read_open(file, buf);
+    libc::close(file);
+    read
+}
+
+// "an unreadable file counts as empty"
+fn size_of(read: FileRead) -> usize
+    ensures { λ r. ⌜ r ≡ size-of read ⌝ }
+{
+    match read {
+        FileRead::Unreadable => 0,
+        FileRead::Bytes(n) => n,
+    }
+}
+
+// Reads a piece of the input, makes its calls and prints their lines. A read that fails counts as the input's end.
+fn take_turn(run: Run, pending: Pending) -> Turn {
+    let mut piece = io::buffer();
+    let got = libc::read(STDIN_FILENO, &mut piece);
+    let n = io::count(got, &piece);
+    if n == 0 {
+        return Turn {
+            run,
+            pending,
+            more: false,
+        };
+    }
+    let mut out = [0u8; 8192];
+    let fed = transcript::feed(run, pending, &piece[..n], &mut out);
+    let wrote = fed.wrote;
+    io::write_all(STDOUT_FILENO, &out[..wrote]);
+    let next = fed.run;
+    let rest = fed.pending;
+    Turn {
+        run: next,
+        pending: rest,
+        more: true,
+    }
+}
+
+// What is printed at the input's end.
+fn finish(run: Run, pending: Pending) {
+    let mut out = [0u8; 1024];
+    let half = transcript::half_line(pending, &mut out);
+    io::write_all(STDOUT_FILENO, &out[..half]);
+    let rest = transcript::closing_lines(run, &mut out);
+    io::write_all(STDOUT_FILENO, &out[..rest]);
+}
+
+// The whole input, piece by piece. A proved loop has to end, and nothing says that the input does: it counts down from a
+// number of pieces that no input has.
+fn serve(run: Run) {
+    let mut turns = u64::MAX;
+    let mut r = run;
+    let mut pending = Pending::Nothing;
+    while turns > 0 {
+        let t = take_turn(r, pending);
+        r = t.run;
+        pending = t.pending;
+        if !t.more {
+            break;
+        }
+        turns -= 1;
+    }
+    finish(r, pending);
+}
+
+// One byte more than the longest list and than the longest library, so that a longer file shows.
+fn main() {
+    let mut jobs = [0u8; 4806];
+    let listed = size_of(read_file(b"jobs.bin", &mut jobs));
+    let mut numbers = [0u8; 257];
+    let count = size_of(read_file(b"library.bin", &mut numbers));
+    let opened = transcript::open_files(&jobs[..listed], &numbers[..count]);
+    let answer = opened.answer;
+    if transcript::open_number(answer) == 0 {
+        let run = opened.run;
+        serve(run);
+        return;
+    }
+    let mut out = [0u8; 16];
+    let n = transcript::open_line(answer, &mut out);
+    io::write_all(STDOUT_FILENO, &out[..n]);
+}

@@ -1,0 +1,159 @@
+-- THE LAW OF THE COORDINATOR: however the input is cut into pieces, feeding them one after the other, then the line of half
+-- a call and the closing lines, prints exactly the transcript of the whole input. Assumes nothing.
+use Prim.Native.Nat.{ℕ, zero, suc, _+_, _*_, _/_, _≤_}
+use mathlib.Core.Path.{_≡_, refl, sym, ap, subst, _∙_}
+use mathlib.Core.List.{List, [], _∷_, _++_, append-assoc}
+use mathlib.Core.Bool.{Bool, true, false, cond}
+use native.Mathlib.Omega.{arith}
+use lib.ListN.{length, take, drop}
+use lib.Seq.{take-at, take-length}
+use lib.Dec.{eqb}
+use borrow.Author.Tests.{le-leb}
+use Rattle.tasklist.specs.TaskList.{TaskList}
+use Rattle.tasklist.specs.Decode.{Decoded, refused, accepted, decode}
+use Rattle.tasklist.specs.Encode.{joined}
+use Rattle.tasklist.specs.Tables.{list-of}
+use Rattle.library.specs.Library.{memory-of}
+use Rattle.semantics.specs.Run.{Context, context, initial}
+use Rattle.semantics.specs.Run as Semantics
+use Rattle.semantics.specs.Operations.{Asked, denies, gives, with-list, open-asked}
+use Rattle.runtime.specs.declared.Run.{Run}
+use Rattle.runtime.specs.declared.Opened.{Opened}
+use Rattle.runtime.specs.View.{model, context-of, SoundRun}
+use Rattle.runtime.specs.Asked.{open-number, Unopened, Running, OpenedAs}
+use Rattle.transcript.specs.declared.Pending.{Pending}
+use Rattle.transcript.specs.declared.Pending.the-variants.{Nothing, Kind}
+use Rattle.transcript.specs.declared.Fed.{Fed}
+use Rattle.transcript.specs.Transcript.{line, call-line, call-run, closing, lines-from, refused-line, printed, transcript}
+use Rattle.transcript.specs.Promises.{given, Wrote, open-bytes, whole-lines, whole-run, half-of, pending-bytes, half-bytes, PairedWith, used-of, FedAs}
+use Rattle.transcript.proofs.ClosingLaws.{with-room}
+use Rattle.tasklist.proofs.RefusalLaws.{refused-above}
+
+-- these bytes were written at the front of a lent slice that has room for them, and then printed
+pub record Printed (room : ℕ) (bytes shown : List ℕ) : Type 0 where
+  pub before : List ℕ
+  pub after : List ℕ
+  pub count : ℕ
+  pub wrote : Wrote (given room before bytes) before after count
+  pub enough : room ≤ length before
+  pub shown-is : shown ≡ take count after
+
+-- a piece was fed to a run, and the lines that it wrote were printed
+pub record Turn (run : Run) (p : Pending) (piece : List ℕ) (f : Fed) (shown : List ℕ) : Type 0 where
+  pub before : List ℕ
+  pub after : List ℕ
+  pub fed : FedAs run p piece before after f
+  pub enough : 3 * (length piece / 2 + 1) ≤ length before
+  pub shown-is : shown ≡ take (f .wrote) after
+
+-- The program's loop from a run and a pending byte on: a turn for each piece, then half_line and closing_lines.
+abbrev pub Session : Run → Pending → List (List ℕ) → List ℕ → Type 0
+Session run p [] shown =
+    (half : List ℕ) × (last : List ℕ) × Printed 3 (half-bytes p) half × Printed 737 (closing (model run)) last × (shown ≡ half ++ last)
+Session run p (piece ∷ pieces) shown =
+    (f : Fed) × (now-shown : List ℕ) × (later : List ℕ) × Turn run p piece f now-shown × Session (f .run) (f .pending) pieces later
+    × (shown ≡ now-shown ++ later)
+
+-- The program behind open: the line of a failed open, "Else" the loop on the fresh run.
+abbrev pub Coordinated : ℕ → Opened → List (List ℕ) → List ℕ → Type 0
+Coordinated zero o pieces shown = Session (o .run) Nothing pieces shown
+Coordinated (suc k) o pieces shown = Printed 11 (open-bytes (suc k)) shown
+
+-- the whole input
+abbrev pub all-of : List (List ℕ) → List ℕ
+all-of pieces = joined (λ piece. piece) pieces
+
+printed-is : (room : ℕ) (bytes shown : List ℕ) → Printed room bytes shown → shown ≡ bytes
+printed-is room bytes shown p =
+    let w = p .wrote in
+    let all = with-room room (p .before) bytes (p .enough) in
+    p .shown-is
+    ∙ ap (take (p .count)) (w .places ∙ ap (λ b. b ++ drop (length b) (p .before)) all)
+    ∙ take-at bytes (drop (length bytes) (p .before)) (p .count) (ap length (sym all) ∙ sym (w .count))
+
+-- the lines of two parts of the input, one behind the other
+lines-split :
+    (c : Context) (r : Semantics.Run) (a b : List ℕ) → lines-from c r (a ++ b) ≡ whole-lines c r a ++ lines-from c (whole-run c r a) (half-of a ++ b)
+unfolding lines-from whole-lines whole-run half-of
+lines-split c r [] b = refl
+lines-split c r (kind ∷ []) b = refl
+lines-split c r (kind ∷ n ∷ a) b =
+    ap (λ l. call-line c r kind n ++ l) (lines-split c (call-run c r kind n) a b)
+    ∙ sym (append-assoc (call-line c r kind n) (whole-lines c (call-run c r kind n) a) (lines-from c (whole-run c (call-run c r kind n) a) (half-of a ++ b)))
+
+lines-end : (c : Context) (r : Semantics.Run) (p : Pending) → lines-from c r (pending-bytes p ++ []) ≡ half-bytes p ++ closing r
+unfolding lines-from pending-bytes half-bytes
+lines-end c r Nothing = refl
+lines-end c r (Kind k) = refl
+
+used-all : (piece out : List ℕ) → 3 * (length piece / 2 + 1) ≤ length out → used-of piece out ≡ length piece
+unfolding used-of
+used-all piece out h = rw (le-leb (3 * (length piece / 2 + 1)) (length out) h) refl
+
+-- from a run and a pending byte on
+pub session-lines :
+    (pieces : List (List ℕ)) (run : Run) (p : Pending) (shown : List ℕ) → SoundRun run → Session run p pieces shown
+    → shown ≡ lines-from (context-of run) (model run) (pending-bytes p ++ all-of pieces)
+unfolding joined
+session-lines [] run p shown s (half, last, h, l, e) =
+    e ∙ ap (λ x. x ++ last) (printed-is 3 (half-bytes p) half h) ∙ ap (λ x. half-bytes p ++ x) (printed-is 737 (closing (model run)) last l)
+    ∙ sym (lines-end (context-of run) (model run) p)
+session-lines (piece ∷ pieces) run p shown s (f, now-shown, later, t, rest, e) =
+    let c = context-of run in
+    let fed = t .fed .fed in
+    let bytes = pending-bytes p ++ piece in
+    let whole : pending-bytes p ++ take (f .used) piece ≡ bytes =
+    ap (λ k. pending-bytes p ++ take k piece) (t .fed .used ∙ used-all piece (t .before) (t .enough)) ∙ ap (λ l. pending-bytes p ++ l) (take-length piece) in
+    let lines : now-shown ≡ whole-lines c (model run) bytes = t .shown-is ∙ fed .lines s ∙ ap (whole-lines c (model run)) whole in
+    let left : later ≡ lines-from c (whole-run c (model run) bytes) (half-of bytes ++ all-of pieces) =
+    session-lines pieces (f .run) (f .pending) later (fed .sound s) rest
+    ∙ ap (λ x. lines-from (context (list-of x)) (model (f .run)) (pending-bytes (f .pending) ++ all-of pieces)) (fed .list)
+    ∙ ap (λ m. lines-from c m (pending-bytes (f .pending) ++ all-of pieces)) (fed .run s ∙ ap (whole-run c (model run)) whole)
+    ∙ ap (λ q. lines-from c (whole-run c (model run) bytes) (q ++ all-of pieces)) (fed .pending ∙ ap half-of whole) in
+    e ∙ ap (λ x. x ++ later) lines ∙ ap (λ x. whole-lines c (model run) bytes ++ x) left
+    ∙ sym (lines-split c (model run) bytes (all-of pieces))
+    ∙ ap (lines-from c (model run)) (append-assoc (pending-bytes p) piece (all-of pieces))
+
+accepted-same : (a b : TaskList) → accepted a ≡ accepted b → a ≡ b
+accepted-same a b q = cc
+
+-- The law
+pub prints-the-transcript :
+    (jobs library : List ℕ) (o : Opened) → OpenedAs jobs (open-asked jobs (memory-of library)) o
+    → (pieces : List (List ℕ)) (shown : List ℕ) → Coordinated (open-number (o .answer)) o pieces shown
+    → shown ≡ transcript jobs library (all-of pieces)
+unfolding open-asked with-list transcript printed
+prints-the-transcript jobs library o h pieces shown t = by-list (decode jobs) refl h
+  where
+    memory : List ℕ
+    memory = memory-of library
+
+    input : List ℕ
+    input = all-of pieces
+
+    lines : Context → List ℕ
+    lines c = lines-from c (initial c memory) input
+
+    refusal : (k : ℕ) → 1 ≤ k → Unopened k o → shown ≡ refused-line k
+    refusal zero some u = let z : ⊥ = omega arith in absurd z
+    refusal (suc k) some u =
+        printed-is 11 (open-bytes (suc k)) shown (subst (λ n. Coordinated n o pieces shown) (u .answer) t) ∙ (unfold open-bytes in refl)
+
+    running : (l : TaskList) → decode jobs ≡ accepted l → Running jobs (initial (context l) memory) o → shown ≡ lines (context l)
+    running l q r =
+        let same : list-of (o .run .tables) ≡ l = accepted-same (list-of (o .run .tables)) l (sym (r .list) ∙ q) in
+        session-lines pieces (o .run) Nothing shown (r .sound) (subst (λ n. Coordinated n o pieces shown) (r .answer) t)
+        ∙ ap (λ m. lines-from (context-of (o .run)) m (pending-bytes Nothing ++ input)) (r .run)
+        ∙ ap (λ x. lines-from (context x) (initial (context l) memory) (pending-bytes Nothing ++ input)) same
+        ∙ (unfold pending-bytes in refl)
+
+    by-fit : (l : TaskList) → decode jobs ≡ accepted l → (b : Bool)
+        → OpenedAs jobs (cond b (gives (initial (context l) memory)) (denies 8)) o
+        → shown ≡ printed (cond b (gives (lines (context l))) (denies 8))
+    by-fit l q false h = refusal 8 (omega arith) h
+    by-fit l q true h = running l q h
+
+    by-list : (d : Decoded) → decode jobs ≡ d → OpenedAs jobs (with-list d memory (λ c. initial c memory)) o
+        → shown ≡ printed (with-list (decode jobs) memory lines)
+    by-list (refused k) q h = rw q (refusal k (refused-above jobs k q) h)
+    by-list (accepted l) q h = rw q (by-fit l q (eqb (length memory) (l .locations)) h)

@@ -1,0 +1,74 @@
+-- What the coordinator prints: document 01, "Publishing examples", its last paragraph. Bytes are numbers: 10 is a line feed,
+-- 32 a space, 48 the digit 0.
+use Prim.Native.Nat.{ℕ, zero, suc, _+_, _/_, _%_}
+use mathlib.Core.List.{List, [], _∷_, _++_}
+use mathlib.Core.Bool.{cond}
+use lib.ListN.{length}
+use lib.Dec.{ltb}
+use Rattle.tasklist.specs.Decode.{decode}
+use Rattle.tasklist.specs.Encode.{joined}
+use Rattle.library.specs.Library.{memory-of}
+use Rattle.semantics.specs.Run.{Run, Context, initial}
+use Rattle.semantics.specs.Call.{Call, decide, after-all}
+use Rattle.semantics.specs.Operations.{Asked, denies, gives, with-list}
+use Rattle.semantics.specs.Answers.{outcome-number}
+use Rattle.runtime.specs.Replays.{calls-of-kind}
+
+-- the digits of a number, with so many steps to spare
+unfoldable pub digits-within : ℕ → ℕ → List ℕ
+digits-within zero n = []
+digits-within (suc k) n = cond (ltb n 10) ((48 + n) ∷ []) (digits-within k (n / 10) ++ ((48 + n % 10) ∷ []))
+
+-- a number in decimal, with no zero in front
+unfoldable pub digits : ℕ → List ℕ
+digits n = digits-within (suc n) n
+
+-- a number and the byte behind it
+unfoldable pub followed : ℕ → ℕ → List ℕ
+followed n behind = digits n ++ (behind ∷ [])
+
+-- a number on a line of its own
+abbrev pub line : ℕ → List ℕ
+line n = followed n 10
+
+-- "0 or the refusal (another kind ..: 18)": what the line of a call says; another kind is no call
+unfoldable pub number-of : Context → Run → List Call → ℕ
+number-of c r [] = 18
+number-of c r (b ∷ bs) = outcome-number (decide c r b)
+
+-- "0 start, 1 step, 2 end, then the job": the line of a two-byte call
+abbrev pub call-line : Context → Run → ℕ → ℕ → List ℕ
+call-line c r kind n = line (number-of c r (calls-of-kind kind n))
+
+-- the run that it leaves: a refused call and another kind leave it as it was
+abbrev pub call-run : Context → Run → ℕ → ℕ → Run
+call-run c r kind n = after-all c r (calls-of-kind kind n)
+
+-- "last calls, weight and jobs left"
+unfoldable pub totals : ℕ → ℕ → ℕ → List ℕ
+totals calls weight left = followed calls 32 ++ followed weight 32 ++ line left
+
+-- "each entry on a line; last calls, weight and jobs left"
+unfoldable pub closing : Run → List ℕ
+closing r = joined line (r .memory) ++ totals (r .calls) (r .weight) (length (r .order))
+
+-- "one line per call, 0 or the refusal (another kind, or half a call: 18)", then what closes the transcript
+unfoldable pub lines-from : Context → Run → List ℕ → List ℕ
+lines-from c r [] = closing r
+lines-from c r (kind ∷ []) = line 18 ++ closing r
+lines-from c r (kind ∷ n ∷ input) = call-line c r kind n ++ lines-from c (call-run c r kind n) input
+
+-- "A failed open prints one line, as `refused 1`."
+unfoldable pub refused-line : ℕ → List ℕ
+refused-line k = 114 ∷ 101 ∷ 102 ∷ 117 ∷ 115 ∷ 101 ∷ 100 ∷ 32 ∷ line k
+
+-- the line of a failed open, "Else" the lines of the run
+unfoldable pub printed : Asked (List ℕ) → List ℕ
+printed (denies k) = refused-line k
+printed (gives lines) = lines
+
+-- The whole output, by the bytes of jobs.bin, library.bin and standard input: open asks as ever, "as check, then 8".
+unfoldable pub transcript : List ℕ → List ℕ → List ℕ → List ℕ
+transcript jobs library input =
+    let memory = memory-of library in
+    printed (with-list (decode jobs) memory (λ c. lines-from c (initial c memory) input))

@@ -1,0 +1,2 @@
+-- What the benchmark is told.
+pub mod Counts

@@ -29,7 +29,7 @@ use Rattle.runtime.specs.declared.Stepping.{Stepping}
 use Rattle.runtime.specs.declared.Stepping.the-variants.{Refused, Taken}
 use Rattle.runtime.specs.View.{model, context-of, SoundRun}
 use Rattle.runtime.specs.Calls.{decided}
-use Rattle.runtime.specs.Parts.{Placed, applied}
+use Rattle.runtime.specs.Parts.{Placed, record-of, applied}
 
 -- the fault of task n's access
 abbrev pub fault-at : Run → ℕ → ℕ → ℕ → ℕ
@@ -42,6 +42,24 @@ AccessAs run n place a asked Found.Held =
     SoundRun run → Placed run n place → (fault-at run n a asked ≡ 0) × (allowed (model run) n (access a asked) ≡ false)
 AccessAs run n place a asked Found.Free =
     SoundRun run → Placed run n place → (fault-at run n a asked ≡ 0) × (allowed (model run) n (access a asked) ≡ true)
+
+-- a run with this order and these modes: what a plan looks at beside the task's own record
+abbrev pub looking : List ℕ → List ℕ → Run → Run
+looking order modes run =
+    record {
+      tables = run .tables;
+      memory = run .memory;
+      records = run .records;
+      modes = modes;
+      order = order;
+      left = run .left;
+      calls = run .calls;
+      weight = run .weight;
+    }
+
+-- the same by the order and the modes alone
+abbrev pub AccessIn : List ℕ → List ℕ → ℕ → ℕ → ℕ → ℕ → Access → Type 0
+AccessIn order modes n place a asked r = (run : Run) → AccessAs (looking order modes run) n place a asked r
 
 -- what a plan says of task n under weight w
 unfoldable pub planned : Run → ℕ → ℕ → StepPlan → Outcome
@@ -63,6 +81,11 @@ settled run n w i = settle (model run) n (plan-instruction (context-of run) w n 
 -- the plan of an instruction of the task at this place
 abbrev pub Plans : Run → ℕ → ℕ → Instruction → StepPlan → Type 0
 Plans run n place i p = SoundRun run → Placed run n place → (w : ℕ) → settled run n w i ≡ planned run n w p
+
+-- the same by the order, the modes, the memory and the task's registers alone
+abbrev pub PlansIn : List ℕ → List ℕ → List ℕ → List ℕ → ℕ → ℕ → Instruction → StepPlan → Type 0
+PlansIn order modes memory registers n place i p =
+    (run : Run) → run .memory ≡ memory → record-of run n .registers ≡ registers → Plans (looking order modes run) n place i p
 
 -- the same by the registers alone
 abbrev pub PlansFree : List ℕ → Instruction → StepPlan → Type 0
@@ -92,6 +115,10 @@ WaitAs run n place (Store a x) p = Plans run n place (Store a x) p
 WaitAs run n place (Skip a b) p = Unit {0}
 WaitAs run n place (Spawn s f) p = Unit {0}
 WaitAs run n place (Wait a) p = Plans run n place (Wait a) p
+
+abbrev pub WaitIn : List ℕ → List ℕ → List ℕ → List ℕ → ℕ → ℕ → Instruction → StepPlan → Type 0
+WaitIn order modes memory registers n place i p =
+    (run : Run) → run .memory ≡ memory → record-of run n .registers ≡ registers → WaitAs (looking order modes run) n place i p
 
 abbrev pub holds-back : StepPlan → Bool
 holds-back Planned.Held = true

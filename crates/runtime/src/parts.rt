@@ -1,15 +1,15 @@
 // What each instruction comes to: a look at the task's own record, and for those that may wait at the tasks ahead.
-ghost use Prim.Native.Nat.{_+_, _-_, _%_, _^_, _<_};
+ghost use Prim.Native.Nat.{ℕ, _+_, _-_, _%_, _^_, _<_};
 ghost use mathlib.Core.Path.{_≡_};
+ghost use mathlib.Core.List.{List};
 ghost use mathlib.Core.Bool.{cond};
 ghost use lib.ListN.{getD};
 ghost use lib.Dec.{ltb};
 ghost use Rattle.tasklist.specs.declared.Instruction.the-variants.{Load, Store, Wait};
 ghost use Rattle.tasklist.specs.Encode.{instruction-fields};
 ghost use Rattle.semantics.specs.Plan.{passed-over};
-ghost use Rattle.runtime.specs.Steps.{AccessAs, Plans, FreeAs, WaitAs};
+ghost use Rattle.runtime.specs.Steps.{AccessIn, PlansIn, FreeAs, WaitIn};
 use crate::Access;
-use crate::Run;
 use crate::StepPlan;
 use tasklist::Instruction;
 
@@ -93,12 +93,19 @@ pub fn code_of(instruction: Instruction) -> usize
 }
 
 // What comes of an access: its fault, else whether a task ahead stands in its way.
-fn access_of(run: Run, task: usize, place: usize, location: usize, asked: u8) -> Access
-    ensures { λ r. ⌜ AccessAs run task place location asked r ⌝ }
+fn access_of<'a>(
+    order: &'a [u8; 128],
+    modes: &'a [u8; 8192],
+    task: usize,
+    place: usize,
+    location: usize,
+    asked: u8,
+) -> Access
+    ensures { λ r. ⌜ AccessIn (now (order .entry)) (now (modes .entry)) task place location asked r ⌝ }
 {
-    let own = tables::mode_at(&run.modes, task, location);
+    let own = tables::mode_at(modes, task, location);
     let fault = tables::access_fault(own, asked);
-    let held = tables::held(&run.order, place, &run.modes, location, asked);
+    let held = tables::held(order, place, modes, location, asked);
     if fault != 0 {
         return Access::Fault { fault };
     }
@@ -109,36 +116,46 @@ fn access_of(run: Run, task: usize, place: usize, location: usize, asked: u8) ->
 }
 
 // "Load needs reading"
-fn load_plan(run: Run, task: usize, place: usize, target: u8, from: u8) -> StepPlan
+fn load_plan<'a>(
+    order: &'a [u8; 128],
+    modes: &'a [u8; 8192],
+    memory: [u32; 64],
+    registers: [u32; 4],
+    task: usize,
+    place: usize,
+    target: u8,
+    from: u8,
+) -> StepPlan
     requires { ⌜ task < 128 ⌝ }
-    ensures { λ r. ⌜ Plans run task place (Load target from) r ⌝ }
+    ensures { λ r. ⌜ PlansIn (now (order .entry)) (now (modes .entry)) memory registers task place (Load target from) r ⌝ }
 {
-    let own = run.records[task];
-    let registers = own.registers;
     let location = tables::register_at(registers, from) as usize;
-    let found = access_of(run, task, place, location, 1);
+    let found = access_of(order, modes, task, place, location, 1);
     match found {
         Access::Fault { fault } => StepPlan::Fault { fault },
         Access::Held => StepPlan::Held,
-        Access::Free => {
-            let memory = run.memory;
-            StepPlan::Assign {
-                target,
-                value: value_at(memory, location),
-            }
-        }
+        Access::Free => StepPlan::Assign {
+            target,
+            value: value_at(memory, location),
+        },
     }
 }
 
 // "store needs writing"
-fn store_plan(run: Run, task: usize, place: usize, to: u8, source: u8) -> StepPlan
+fn store_plan<'a>(
+    order: &'a [u8; 128],
+    modes: &'a [u8; 8192],
+    registers: [u32; 4],
+    task: usize,
+    place: usize,
+    to: u8,
+    source: u8,
+) -> StepPlan
     requires { ⌜ task < 128 ⌝ }
-    ensures { λ r. ⌜ Plans run task place (Store to source) r ⌝ }
+    ensures { λ r. ⌜ ((m : List ℕ) → PlansIn (now (order .entry)) (now (modes .entry)) m registers task place (Store to source) r) ⌝ }
 {
-    let own = run.records[task];
-    let registers = own.registers;
     let location = tables::register_at(registers, to) as usize;
-    let found = access_of(run, task, place, location, 2);
+    let found = access_of(order, modes, task, place, location, 2);
     match found {
         Access::Fault { fault } => StepPlan::Fault { fault },
         Access::Held => StepPlan::Held,
@@ -150,15 +167,20 @@ fn store_plan(run: Run, task: usize, place: usize, to: u8, source: u8) -> StepPl
 }
 
 // "wait needs what the job's own mode there allows"
-fn wait_plan(run: Run, task: usize, place: usize, at: u8) -> StepPlan
+fn wait_plan<'a>(
+    order: &'a [u8; 128],
+    modes: &'a [u8; 8192],
+    registers: [u32; 4],
+    task: usize,
+    place: usize,
+    at: u8,
+) -> StepPlan
     requires { ⌜ task < 128 ⌝ }
-    ensures { λ r. ⌜ Plans run task place (Wait at) r ⌝ }
+    ensures { λ r. ⌜ ((m : List ℕ) → PlansIn (now (order .entry)) (now (modes .entry)) m registers task place (Wait at) r) ⌝ }
 {
-    let own = run.records[task];
-    let registers = own.registers;
     let location = tables::register_at(registers, at) as usize;
-    let asked = tables::mode_at(&run.modes, task, location);
-    let found = access_of(run, task, place, location, asked);
+    let asked = tables::mode_at(modes, task, location);
+    let found = access_of(order, modes, task, place, location, asked);
     match found {
         Access::Fault { fault } => StepPlan::Fault { fault },
         Access::Held => StepPlan::Held,
@@ -231,17 +253,27 @@ fn free_plan(registers: [u32; 4], instruction: Instruction) -> StepPlan
 }
 
 // Load, store and wait. The others are not asked of here.
-fn waiting_plan(run: Run, task: usize, place: usize, instruction: Instruction) -> StepPlan
+fn waiting_plan<'a>(
+    order: &'a [u8; 128],
+    modes: &'a [u8; 8192],
+    memory: [u32; 64],
+    registers: [u32; 4],
+    task: usize,
+    place: usize,
+    instruction: Instruction,
+) -> StepPlan
     requires { ⌜ task < 128 ⌝ }
-    ensures { λ r. ⌜ WaitAs run task place instruction r ⌝ }
+    ensures { λ r. ⌜ WaitIn (now (order .entry)) (now (modes .entry)) memory registers task place instruction r ⌝ }
 {
     match instruction {
         Instruction::Load {
             target,
             place: from,
-        } => load_plan(run, task, place, target, from),
-        Instruction::Store { place: to, source } => store_plan(run, task, place, to, source),
-        Instruction::Wait { place: at } => wait_plan(run, task, place, at),
+        } => load_plan(order, modes, memory, registers, task, place, target, from),
+        Instruction::Store { place: to, source } => {
+            store_plan(order, modes, registers, task, place, to, source)
+        }
+        Instruction::Wait { place: at } => wait_plan(order, modes, registers, task, place, at),
         Instruction::Const {
             target: _,
             value: _,
@@ -270,22 +302,21 @@ fn waiting_plan(run: Run, task: usize, place: usize, instruction: Instruction) -
 }
 
 // What an instruction comes to: by its code, those that never wait together, then by its case.
-pub fn plan_of(
-    run: Run,
+pub fn plan_of<'a>(
+    order: &'a [u8; 128],
+    modes: &'a [u8; 8192],
+    memory: [u32; 64],
+    registers: [u32; 4],
     task: usize,
     place: usize,
     code: usize,
     instruction: Instruction,
 ) -> StepPlan
     requires { ⌜ (task < 128) × (code ≡ getD (instruction-fields instruction) 0 0) ⌝ }
-    ensures { λ r. ⌜ Plans run task place instruction r ⌝ }
+    ensures { λ r. ⌜ PlansIn (now (order .entry)) (now (modes .entry)) memory registers task place instruction r ⌝ }
 {
     match code {
-        0 | 1 | 2 | 3 | 6 | 7 => {
-            let own = run.records[task];
-            let registers = own.registers;
-            free_plan(registers, instruction)
-        }
-        _ => waiting_plan(run, task, place, instruction),
+        0 | 1 | 2 | 3 | 6 | 7 => free_plan(registers, instruction),
+        _ => waiting_plan(order, modes, memory, registers, task, place, instruction),
     }
 }

@@ -64,7 +64,18 @@ pub fn step_plan(run: Run, task: u32) -> Stepping
             let tables = run.tables;
             let instruction = listing::instruction_at(tables, own.body as usize, own.pc as usize);
             let code = code_of(instruction);
-            let plan = plan_of(run, n, place, code, instruction);
+            let memory = run.memory;
+            let registers = own.registers;
+            let plan = plan_of(
+                &run.order,
+                &run.modes,
+                memory,
+                registers,
+                n,
+                place,
+                code,
+                instruction,
+            );
             if is_held(plan) {
                 return Stepping::Refused {
                     refusal: CallRefusal::Blocked,

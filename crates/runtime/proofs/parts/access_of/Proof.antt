@@ -1,5 +1,7 @@
 -- A fault, held back, or free.
 -- Assumes nothing.
+use denote.Ref.{now}
+use Rattle.runtime.specs.Steps.{looking}
 use Rattle.runtime.proofs.StepLaws.{access-faults, access-held, access-free}
 use borrow.Author.Needs.{needs}
 use Rattle.runtime.proofs.parts.access_of.Statement.{statement}
@@ -21,15 +23,24 @@ held-requires c κs = search needs
 
 returns : tie.Need-returns
 returns c =
-    access-faults (c .before .before .before .before .before .before .before .before .before .args .t1) (c .before .before .before .before .before .before .before .before .before .args .task) (c .before .before .before .before .before .before .before .before .before .args .place) (c .before .before .before .before .before .before .before .before .before .args .location) (c .before .before .before .before .before .before .before .before .before .args .asked) (c .before .before .before .before .before .before .mode-at .result) (c .before .before .before .before .before .access-fault .result) (c .before .before .before .before .before .before .mode-at .ensures) (c .before .before .before .before .before .access-fault .ensures) (c .if1 .taken)
+    let a = c .before .before .before .before .args in
+    λ run.
+    access-faults (looking (now (a .order)) (now (a .modes)) run) (a .task) (a .place) (a .location) (a .asked) (c .before .before .before .mode-at .result) (c .before .before .access-fault .result)
+    (c .before .before .before .mode-at .ensures) (c .before .before .access-fault .ensures) (c .if1 .taken)
 
 returns-2 : tie.Need-returns-2
 returns-2 c =
-    access-held (c .before .before .before .before .before .before .before .before .before .before .args .t1) (c .before .before .before .before .before .before .before .before .before .before .args .task) (c .before .before .before .before .before .before .before .before .before .before .args .place) (c .before .before .before .before .before .before .before .before .before .before .args .location) (c .before .before .before .before .before .before .before .before .before .before .args .asked) (c .before .before .before .before .before .before .before .mode-at .result) (c .before .before .before .before .before .before .access-fault .result) (c .before .before .before .before .before .before .before .mode-at .ensures) (c .before .before .before .before .before .before .access-fault .ensures) (c .before .if1 .left) (c .before .before .held .result) (c .before .before .held .ensures) (c .if2 .taken)
+    let a = c .before .before .before .before .before .args in
+    λ run.
+    access-held (looking (now (a .order)) (now (a .modes)) run) (a .task) (a .place) (a .location) (a .asked) (c .before .before .before .before .mode-at .result) (c .before .before .before .access-fault .result)
+    (c .before .before .before .before .mode-at .ensures) (c .before .before .before .access-fault .ensures) (c .before .if1 .left) (c .before .before .held .result) (c .before .before .held .ensures) (c .if2 .taken)
 
 returns-3 : tie.Need-returns-3
 returns-3 c =
-    access-free (c .before .before .before .before .before .before .before .before .before .before .args .t1) (c .before .before .before .before .before .before .before .before .before .before .args .task) (c .before .before .before .before .before .before .before .before .before .before .args .place) (c .before .before .before .before .before .before .before .before .before .before .args .location) (c .before .before .before .before .before .before .before .before .before .before .args .asked) (c .before .before .before .before .before .before .before .mode-at .result) (c .before .before .before .before .before .before .access-fault .result) (c .before .before .before .before .before .before .before .mode-at .ensures) (c .before .before .before .before .before .before .access-fault .ensures) (c .before .if1 .left) (c .before .before .held .result) (c .before .before .held .ensures) (c .if2 .left)
+    let a = c .before .before .before .before .before .args in
+    λ run.
+    access-free (looking (now (a .order)) (now (a .modes)) run) (a .task) (a .place) (a .location) (a .asked) (c .before .before .before .before .mode-at .result) (c .before .before .before .access-fault .result)
+    (c .before .before .before .before .mode-at .ensures) (c .before .before .before .access-fault .ensures) (c .before .if1 .left) (c .before .before .held .result) (c .before .before .held .ensures) (c .if2 .left)
 
 pub access-of-spec : {M : Type 1} → statement M
 access-of-spec =

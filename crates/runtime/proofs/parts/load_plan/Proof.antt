@@ -1,8 +1,10 @@
 -- By what comes of the access.
 -- Assumes nothing.
-use mathlib.Core.Path.{subst}
+use mathlib.Core.Path.{sym, ap, subst, _∙_}
+use lib.ListN.{getD}
+use denote.Ref.{now}
+use Rattle.runtime.specs.Steps.{looking, AccessAs}
 use Rattle.runtime.proofs.StepLaws.{load-fault, load-held, load-free}
-use Rattle.runtime.specs.Steps.{AccessAs}
 use borrow.Author.Needs.{needs}
 use Rattle.runtime.proofs.parts.load_plan.Statement.{statement}
 use Rattle.runtime.proofs.parts.load_plan.Tie as tie
@@ -11,12 +13,6 @@ use Rattle.runtime.proofs.parts.load_plan.Lts as lts
 use Rattle.runtime.proofs.parts.access_of.Reads as access-of-reads
 use Rattle.runtime.proofs.parts.value_at.Reads as value-at-reads
 use Rattle.tables.proofs.register_at.Reads as register-at-reads
-
-mul-own : tie.Need-mul-own
-mul-own c = search needs
-
-element-copy-out-own : tie.Need-element-copy-out-own
-element-copy-out-own c = search needs
 
 register-at-requires : tie.Need-register-at-requires
 register-at-requires c κs = search needs
@@ -41,22 +37,35 @@ value-at-requires c κs = search needs
 
 returns : tie.Need-returns
 returns c =
-    load-fault (c .before .before .before .before .before .before .before .args .t1) (c .before .before .before .before .before .before .before .args .task) (c .before .before .before .before .before .before .before .args .place) (c .before .before .before .before .before .before .before .pre) (c .before .before .before .before .before .before .before .args .target) (c .before .before .before .before .before .before .before .args .from) (c .before .before .before .before .register-at .result) (c .before .before .before .before .register-at .ensures) (c .before .found .given .0 .0) (subst (AccessAs (c .before .before .before .before .before .before .before .args .t1) (c .before .before .before .before .before .before .before .args .task) (c .before .before .before .before .before .before .before .args .place) (c .before .before .before .before .register-at .result) 1) (c .before .found .given .1) (c .before .before .before .access-of .ensures))
+    let a = c .before .before .before .before .before .args in
+    let at = c .before .before .before .before .register-at in
+    λ run m e.
+    let it = looking (now (a .order)) (now (a .modes)) run in
+    load-fault it (a .task) (a .place) (c .before .before .before .before .before .pre) (a .target) (a .from) (at .result) (at .ensures ∙ ap (λ rs. getD rs (a .from) 0) (sym e)) (c .before .found .given .0 .0)
+    (subst (AccessAs it (a .task) (a .place) (at .result) 1) (c .before .found .given .1) (c .before .before .before .access-of .ensures run))
 
 returns-2 : tie.Need-returns-2
 returns-2 c =
-    load-held (c .before .before .before .before .before .before .args .t1) (c .before .before .before .before .before .before .args .task) (c .before .before .before .before .before .before .args .place) (c .before .before .before .before .before .before .pre) (c .before .before .before .before .before .before .args .target) (c .before .before .before .before .before .before .args .from) (c .before .before .before .register-at .result) (c .before .before .before .register-at .ensures) (subst (AccessAs (c .before .before .before .before .before .before .args .t1) (c .before .before .before .before .before .before .args .task) (c .before .before .before .before .before .before .args .place) (c .before .before .before .register-at .result) 1) (c .enum-told .given .1) (c .before .before .access-of .ensures))
+    let a = c .before .before .before .before .args in
+    let at = c .before .before .before .register-at in
+    λ run m e.
+    let it = looking (now (a .order)) (now (a .modes)) run in
+    load-held it (a .task) (a .place) (c .before .before .before .before .pre) (a .target) (a .from) (at .result) (at .ensures ∙ ap (λ rs. getD rs (a .from) 0) (sym e))
+    (subst (AccessAs it (a .task) (a .place) (at .result) 1) (c .enum-told .given .1) (c .before .before .access-of .ensures run))
 
 returns-3 : tie.Need-returns-3
 returns-3 c =
-    load-free (c .before .before .before .before .before .before .before .before .args .t1) (c .before .before .before .before .before .before .before .before .args .task) (c .before .before .before .before .before .before .before .before .args .place) (c .before .before .before .before .before .before .before .before .pre) (c .before .before .before .before .before .before .before .before .args .target) (c .before .before .before .before .before .before .before .before .args .from) (c .before .before .before .before .before .register-at .result) (c .before .before .before .before .before .register-at .ensures) (c .value-at .result) (c .value-at .ensures) (subst (AccessAs (c .before .before .before .before .before .before .before .before .args .t1) (c .before .before .before .before .before .before .before .before .args .task) (c .before .before .before .before .before .before .before .before .args .place) (c .before .before .before .before .before .register-at .result) 1) (c .before .before .enum-told2 .given .1) (c .before .before .before .before .access-of .ensures))
+    let a = c .before .before .before .before .before .args in
+    let at = c .before .before .before .before .register-at in
+    λ run m e.
+    let it = looking (now (a .order)) (now (a .modes)) run in
+    load-free it (a .task) (a .place) (c .before .before .before .before .before .pre) (a .target) (a .from) (at .result) (at .ensures ∙ ap (λ rs. getD rs (a .from) 0) (sym e)) (c .value-at .result) (c .value-at .ensures ∙ ap (λ l. getD l (at .result) 0) (sym m))
+    (subst (AccessAs it (a .task) (a .place) (at .result) 1) (c .before .enum-told2 .given .1) (c .before .before .before .access-of .ensures run))
 
 pub load-plan-spec : {M : Type 1} → statement M
 load-plan-spec =
     tie.close
     (tie.spec
-    mul-own
-    element-copy-out-own
     register-at-requires
     cast-location
     access-of-requires

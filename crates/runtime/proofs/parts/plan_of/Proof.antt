@@ -1,8 +1,10 @@
--- The code says which of the two was right to ask.
+-- By the code.
 -- Assumes nothing.
+use denote.Ref.{now}
+use mathlib.Core.Path.{sym, subst}
+use Rattle.runtime.specs.Steps.{looking, PlansFree}
 use native.Mathlib.Omega.{arith}
 use Rattle.runtime.proofs.StepLaws.{either, waiting-code, free-code, free-plans}
-use Rattle.runtime.specs.Parts.{record-of}
 use mathlib.Core.Logic.{_≢_}
 use borrow.Author.Needs.{needs}
 use Rattle.runtime.proofs.parts.plan_of.Statement.{statement}
@@ -15,12 +17,6 @@ use Rattle.runtime.proofs.parts.waiting_plan.Reads as waiting-plan-read
 waiting-plan-requires : tie.Need-waiting-plan-requires
 waiting-plan-requires c κs = search needs
 
-mul-own : tie.Need-mul-own
-mul-own c = search needs
-
-element-copy-out-own : tie.Need-element-copy-out-own
-element-copy-out-own c = search needs
-
 free-plan-requires : tie.Need-free-plan-requires
 free-plan-requires c κs = search needs
 
@@ -29,25 +25,20 @@ returns c =
     let a = c .before .before .before .args in
     let not-six : a .code ≢ 6 = either (c .before .if2 .came) (λ x q. omega (arith, x .taken, q)) (λ x q. omega (arith, x .1 .left, q)) in
     let not-seven : a .code ≢ 7 = either (c .before .if2 .came) (λ x q. omega (arith, x .taken, q)) (λ x q. omega (arith, x .1 .left, q)) in
-    waiting-code (a .t1) (a .task) (a .place) (a .instruction) (c .waiting-plan .result) (a .code) (c .before .before .before .pre .1) (c .before .before .if1 .left) not-six not-seven (c .waiting-plan .ensures)
+    λ run m e.
+    waiting-code (looking (now (a .order)) (now (a .modes)) run) (a .task) (a .place) (a .instruction) (c .waiting-plan .result) (a .code) (c .before .before .before .pre .1) (c .before .before .if1 .left) not-six not-seven (c .waiting-plan .ensures run m e)
 
 returns-2 : tie.Need-returns-2
 returns-2 c =
-    let a = c .before .before .before .before .args in
-    let came = c .before .before .before .if1 .came in
+    let a = c .before .before .args in
+    let came = c .before .if1 .came in
     let not-four : a .code ≢ 4 = either came (λ x q. omega (arith, x .taken, q)) (λ x q. omega (arith, x .1 .left, q)) in
     let not-five : a .code ≢ 5 = either came (λ x q. omega (arith, x .taken, q)) (λ x q. omega (arith, x .1 .left, q)) in
     let not-eight : a .code ≢ 8 = either came (λ x q. omega (arith, x .taken, q)) (λ x q. omega (arith, x .2 .taken, q)) in
-    free-plans (a .t1) (a .task) (a .place) (a .instruction) (c .free-plan .result) (c .before .before .before .before .pre .0)
-    (free-code (record-of (a .t1) (a .task) .registers) (a .instruction) (c .free-plan .result) (a .code) (c .before .before .before .before .pre .1) not-four not-five not-eight (c .free-plan .ensures))
+    λ run m e.
+    free-plans (looking (now (a .order)) (now (a .modes)) run) (a .task) (a .place) (a .instruction) (c .free-plan .result) (c .before .before .pre .0)
+    (subst (λ rs. PlansFree rs (a .instruction) (c .free-plan .result)) (sym e)
+    (free-code (a .registers) (a .instruction) (c .free-plan .result) (a .code) (c .before .before .pre .1) not-four not-five not-eight (c .free-plan .ensures)))
 
 pub plan-of-spec : {M : Type 1} → statement M
-plan-of-spec =
-    tie.close
-    (tie.spec
-    waiting-plan-requires
-    mul-own
-    element-copy-out-own
-    free-plan-requires
-    returns
-    returns-2)
+plan-of-spec = tie.close (tie.spec waiting-plan-requires free-plan-requires returns returns-2)

@@ -1,8 +1,10 @@
 -- By what comes of the access.
 -- Assumes nothing.
-use mathlib.Core.Path.{subst}
+use mathlib.Core.Path.{sym, ap, subst, _∙_}
+use lib.ListN.{getD}
+use denote.Ref.{now}
+use Rattle.runtime.specs.Steps.{looking, AccessAs}
 use Rattle.runtime.proofs.StepLaws.{store-fault, store-held, store-free}
-use Rattle.runtime.specs.Steps.{AccessAs}
 use borrow.Author.Needs.{needs}
 use Rattle.runtime.proofs.parts.store_plan.Statement.{statement}
 use Rattle.runtime.proofs.parts.store_plan.Tie as tie
@@ -10,12 +12,6 @@ use Rattle.runtime.proofs.parts.store_plan.Reads as reads
 use Rattle.runtime.proofs.parts.store_plan.Lts as lts
 use Rattle.runtime.proofs.parts.access_of.Reads as access-of-reads
 use Rattle.tables.proofs.register_at.Reads as register-at-reads
-
-mul-own : tie.Need-mul-own
-mul-own c = search needs
-
-element-copy-out-own : tie.Need-element-copy-out-own
-element-copy-out-own c = search needs
 
 register-at-requires : tie.Need-register-at-requires
 register-at-requires c κs = search needs
@@ -40,22 +36,35 @@ register-at-requires-2 c κs = search needs
 
 returns : tie.Need-returns
 returns c =
-    store-fault (c .before .before .before .before .before .before .before .args .t1) (c .before .before .before .before .before .before .before .args .task) (c .before .before .before .before .before .before .before .args .place) (c .before .before .before .before .before .before .before .pre) (c .before .before .before .before .before .before .before .args .to) (c .before .before .before .before .before .before .before .args .source) (c .before .before .before .before .register-at .result) (c .before .before .before .before .register-at .ensures) (c .before .found .given .0 .0) (subst (AccessAs (c .before .before .before .before .before .before .before .args .t1) (c .before .before .before .before .before .before .before .args .task) (c .before .before .before .before .before .before .before .args .place) (c .before .before .before .before .register-at .result) 2) (c .before .found .given .1) (c .before .before .before .access-of .ensures))
+    let a = c .before .before .before .before .before .args in
+    let at = c .before .before .before .before .register-at in
+    λ l run m e.
+    let it = looking (now (a .order)) (now (a .modes)) run in
+    store-fault it (a .task) (a .place) (c .before .before .before .before .before .pre) (a .to) (a .source) (at .result) (at .ensures ∙ ap (λ rs. getD rs (a .to) 0) (sym e)) (c .before .found .given .0 .0)
+    (subst (AccessAs it (a .task) (a .place) (at .result) 2) (c .before .found .given .1) (c .before .before .before .access-of .ensures run))
 
 returns-2 : tie.Need-returns-2
 returns-2 c =
-    store-held (c .before .before .before .before .before .before .args .t1) (c .before .before .before .before .before .before .args .task) (c .before .before .before .before .before .before .args .place) (c .before .before .before .before .before .before .pre) (c .before .before .before .before .before .before .args .to) (c .before .before .before .before .before .before .args .source) (c .before .before .before .register-at .result) (c .before .before .before .register-at .ensures) (subst (AccessAs (c .before .before .before .before .before .before .args .t1) (c .before .before .before .before .before .before .args .task) (c .before .before .before .before .before .before .args .place) (c .before .before .before .register-at .result) 2) (c .enum-told .given .1) (c .before .before .access-of .ensures))
+    let a = c .before .before .before .before .args in
+    let at = c .before .before .before .register-at in
+    λ l run m e.
+    let it = looking (now (a .order)) (now (a .modes)) run in
+    store-held it (a .task) (a .place) (c .before .before .before .before .pre) (a .to) (a .source) (at .result) (at .ensures ∙ ap (λ rs. getD rs (a .to) 0) (sym e))
+    (subst (AccessAs it (a .task) (a .place) (at .result) 2) (c .enum-told .given .1) (c .before .before .access-of .ensures run))
 
 returns-3 : tie.Need-returns-3
 returns-3 c =
-    store-free (c .before .before .before .before .before .before .before .args .t1) (c .before .before .before .before .before .before .before .args .task) (c .before .before .before .before .before .before .before .args .place) (c .before .before .before .before .before .before .before .pre) (c .before .before .before .before .before .before .before .args .to) (c .before .before .before .before .before .before .before .args .source) (c .before .before .before .before .register-at .result) (c .before .before .before .before .register-at .ensures) (c .register-at2 .result) (c .register-at2 .ensures) (subst (AccessAs (c .before .before .before .before .before .before .before .args .t1) (c .before .before .before .before .before .before .before .args .task) (c .before .before .before .before .before .before .before .args .place) (c .before .before .before .before .register-at .result) 2) (c .before .enum-told2 .given .1) (c .before .before .before .access-of .ensures))
+    let a = c .before .before .before .before .before .args in
+    let at = c .before .before .before .before .register-at in
+    λ l run m e.
+    let it = looking (now (a .order)) (now (a .modes)) run in
+    store-free it (a .task) (a .place) (c .before .before .before .before .before .pre) (a .to) (a .source) (at .result) (at .ensures ∙ ap (λ rs. getD rs (a .to) 0) (sym e)) (c .register-at2 .result) (c .register-at2 .ensures ∙ ap (λ rs. getD rs (a .source) 0) (sym e))
+    (subst (AccessAs it (a .task) (a .place) (at .result) 2) (c .before .enum-told2 .given .1) (c .before .before .before .access-of .ensures run))
 
 pub store-plan-spec : {M : Type 1} → statement M
 store-plan-spec =
     tie.close
     (tie.spec
-    mul-own
-    element-copy-out-own
     register-at-requires
     cast-location
     access-of-requires

@@ -1,8 +1,10 @@
 -- By what comes of the access.
 -- Assumes nothing.
-use mathlib.Core.Path.{subst}
+use mathlib.Core.Path.{sym, ap, subst, _∙_}
+use lib.ListN.{getD}
+use denote.Ref.{now}
+use Rattle.runtime.specs.Steps.{looking, AccessAs}
 use Rattle.runtime.proofs.StepLaws.{wait-fault, wait-held, wait-free}
-use Rattle.runtime.specs.Steps.{AccessAs}
 use borrow.Author.Needs.{needs}
 use Rattle.runtime.proofs.parts.wait_plan.Statement.{statement}
 use Rattle.runtime.proofs.parts.wait_plan.Tie as tie
@@ -11,12 +13,6 @@ use Rattle.runtime.proofs.parts.wait_plan.Lts as lts
 use Rattle.runtime.proofs.parts.access_of.Reads as access-of-reads
 use Rattle.tables.proofs.register_at.Reads as register-at-reads
 use Rattle.tables.proofs.mode_at.Reads as mode-at-reads
-
-mul-own : tie.Need-mul-own
-mul-own c = search needs
-
-element-copy-out-own : tie.Need-element-copy-out-own
-element-copy-out-own c = search needs
 
 register-at-requires : tie.Need-register-at-requires
 register-at-requires c κs = search needs
@@ -41,22 +37,38 @@ enum-told-2 c = search needs
 
 returns : tie.Need-returns
 returns c =
-    wait-fault (c .before .before .before .before .before .before .before .before .before .before .args .t1) (c .before .before .before .before .before .before .before .before .before .before .args .task) (c .before .before .before .before .before .before .before .before .before .before .args .place) (c .before .before .before .before .before .before .before .before .before .before .pre) (c .before .before .before .before .before .before .before .before .before .before .args .at) (c .before .before .before .before .before .before .before .register-at .result) (c .before .before .before .before .mode-at .result) (c .before .before .before .before .before .before .before .register-at .ensures) (c .before .before .before .before .mode-at .ensures) (c .before .found .given .0 .0) (subst (AccessAs (c .before .before .before .before .before .before .before .before .before .before .args .t1) (c .before .before .before .before .before .before .before .before .before .before .args .task) (c .before .before .before .before .before .before .before .before .before .before .args .place) (c .before .before .before .before .before .before .before .register-at .result) (c .before .before .before .before .mode-at .result)) (c .before .found .given .1) (c .before .before .before .access-of .ensures))
+    let a = c .before .before .before .before .before .before .args in
+    let at = c .before .before .before .before .before .register-at in
+    let mode = c .before .before .before .before .mode-at in
+    λ l run m e.
+    let it = looking (now (a .order)) (now (a .modes)) run in
+    wait-fault it (a .task) (a .place) (c .before .before .before .before .before .before .pre) (a .at) (at .result) (mode .result) (at .ensures ∙ ap (λ rs. getD rs (a .at) 0) (sym e)) (mode .ensures) (c .before .found .given .0 .0)
+    (subst (AccessAs it (a .task) (a .place) (at .result) (mode .result)) (c .before .found .given .1) (c .before .before .before .access-of .ensures run))
 
 returns-2 : tie.Need-returns-2
 returns-2 c =
-    wait-held (c .before .before .before .before .before .before .before .before .before .args .t1) (c .before .before .before .before .before .before .before .before .before .args .task) (c .before .before .before .before .before .before .before .before .before .args .place) (c .before .before .before .before .before .before .before .before .before .pre) (c .before .before .before .before .before .before .before .before .before .args .at) (c .before .before .before .before .before .before .register-at .result) (c .before .before .before .mode-at .result) (c .before .before .before .before .before .before .register-at .ensures) (c .before .before .before .mode-at .ensures) (subst (AccessAs (c .before .before .before .before .before .before .before .before .before .args .t1) (c .before .before .before .before .before .before .before .before .before .args .task) (c .before .before .before .before .before .before .before .before .before .args .place) (c .before .before .before .before .before .before .register-at .result) (c .before .before .before .mode-at .result)) (c .enum-told .given .1) (c .before .before .access-of .ensures))
+    let a = c .before .before .before .before .before .args in
+    let at = c .before .before .before .before .register-at in
+    let mode = c .before .before .before .mode-at in
+    λ l run m e.
+    let it = looking (now (a .order)) (now (a .modes)) run in
+    wait-held it (a .task) (a .place) (c .before .before .before .before .before .pre) (a .at) (at .result) (mode .result) (at .ensures ∙ ap (λ rs. getD rs (a .at) 0) (sym e)) (mode .ensures)
+    (subst (AccessAs it (a .task) (a .place) (at .result) (mode .result)) (c .enum-told .given .1) (c .before .before .access-of .ensures run))
 
 returns-3 : tie.Need-returns-3
 returns-3 c =
-    wait-free (c .before .before .before .before .before .before .before .before .before .args .t1) (c .before .before .before .before .before .before .before .before .before .args .task) (c .before .before .before .before .before .before .before .before .before .args .place) (c .before .before .before .before .before .before .before .before .before .pre) (c .before .before .before .before .before .before .before .before .before .args .at) (c .before .before .before .before .before .before .register-at .result) (c .before .before .before .mode-at .result) (c .before .before .before .before .before .before .register-at .ensures) (c .before .before .before .mode-at .ensures) (subst (AccessAs (c .before .before .before .before .before .before .before .before .before .args .t1) (c .before .before .before .before .before .before .before .before .before .args .task) (c .before .before .before .before .before .before .before .before .before .args .place) (c .before .before .before .before .before .before .register-at .result) (c .before .before .before .mode-at .result)) (c .enum-told2 .given .1) (c .before .before .access-of .ensures))
+    let a = c .before .before .before .before .before .args in
+    let at = c .before .before .before .before .register-at in
+    let mode = c .before .before .before .mode-at in
+    λ l run m e.
+    let it = looking (now (a .order)) (now (a .modes)) run in
+    wait-free it (a .task) (a .place) (c .before .before .before .before .before .pre) (a .at) (at .result) (mode .result) (at .ensures ∙ ap (λ rs. getD rs (a .at) 0) (sym e)) (mode .ensures)
+    (subst (AccessAs it (a .task) (a .place) (at .result) (mode .result)) (c .enum-told2 .given .1) (c .before .before .access-of .ensures run))
 
 pub wait-plan-spec : {M : Type 1} → statement M
 wait-plan-spec =
     tie.close
     (tie.spec
-    mul-own
-    element-copy-out-own
     register-at-requires
     cast-location
     mode-at-requires

@@ -1,8 +1,9 @@
--- The three that may wait; of the others nothing is said.
+-- By the instruction's case.
 -- Assumes nothing.
 use mathlib.Core.Path.{sym, subst}
-use Rattle.runtime.specs.Steps.{WaitAs}
+use denote.Ref.{now}
 use Rattle.runtime.specs.declared.StepPlan.the-variants.{Held}
+use Rattle.runtime.specs.Steps.{looking, WaitAs}
 use borrow.Author.Needs.{needs}
 use Rattle.runtime.proofs.parts.waiting_plan.Statement.{statement}
 use Rattle.runtime.proofs.parts.waiting_plan.Tie as tie
@@ -50,39 +51,60 @@ enum-told-6 c = search needs
 
 returns : tie.Need-returns
 returns c =
-    subst (λ i. WaitAs (c .before .before .before .before .args .run) (c .before .before .before .before .args .task) (c .before .before .before .before .args .place) i (c .load-plan .result)) (sym (c .before .before .instruction .given .1)) (c .load-plan .ensures)
+    let a = c .before .before .before .before .args in
+    λ run m e.
+    subst (λ i. WaitAs (looking (now (a .order)) (now (a .modes)) run) (a .task) (a .place) i (c .load-plan .result)) (sym (c .before .before .instruction .given .1))
+    (c .load-plan .ensures run m e)
 
 returns-2 : tie.Need-returns-2
 returns-2 c =
-    subst (λ i. WaitAs (c .before .before .before .before .args .run) (c .before .before .before .before .args .task) (c .before .before .before .before .args .place) i (c .store-plan .result)) (sym (c .before .before .instruction2 .given .1)) (c .store-plan .ensures)
+    let a = c .before .before .before .before .args in
+    λ run m e.
+    subst (λ i. WaitAs (looking (now (a .order)) (now (a .modes)) run) (a .task) (a .place) i (c .store-plan .result)) (sym (c .before .before .instruction2 .given .1))
+    (c .store-plan .ensures (a .memory) run m e)
 
 returns-3 : tie.Need-returns-3
 returns-3 c =
-    subst (λ i. WaitAs (c .before .before .before .before .args .run) (c .before .before .before .before .args .task) (c .before .before .before .before .args .place) i (c .wait-plan .result)) (sym (c .before .before .instruction3 .given .1)) (c .wait-plan .ensures)
+    let a = c .before .before .before .before .args in
+    λ run m e.
+    subst (λ i. WaitAs (looking (now (a .order)) (now (a .modes)) run) (a .task) (a .place) i (c .wait-plan .result)) (sym (c .before .before .instruction3 .given .1))
+    (c .wait-plan .ensures (a .memory) run m e)
 
 returns-4 : tie.Need-returns-4
 returns-4 c =
-    subst (λ i. WaitAs (c .before .before .args .run) (c .before .before .args .task) (c .before .before .args .place) i Held) (sym (c .enum-told .given .1)) tt
+    let a = c .before .before .args in
+    λ run m e.
+    subst (λ i. WaitAs (looking (now (a .order)) (now (a .modes)) run) (a .task) (a .place) i Held) (sym (c .enum-told .given .1)) tt
 
 returns-5 : tie.Need-returns-5
 returns-5 c =
-    subst (λ i. WaitAs (c .before .before .args .run) (c .before .before .args .task) (c .before .before .args .place) i Held) (sym (c .enum-told2 .given .1)) tt
+    let a = c .before .before .args in
+    λ run m e.
+    subst (λ i. WaitAs (looking (now (a .order)) (now (a .modes)) run) (a .task) (a .place) i Held) (sym (c .enum-told2 .given .1)) tt
 
 returns-6 : tie.Need-returns-6
 returns-6 c =
-    subst (λ i. WaitAs (c .before .before .args .run) (c .before .before .args .task) (c .before .before .args .place) i Held) (sym (c .enum-told3 .given .1)) tt
+    let a = c .before .before .args in
+    λ run m e.
+    subst (λ i. WaitAs (looking (now (a .order)) (now (a .modes)) run) (a .task) (a .place) i Held) (sym (c .enum-told3 .given .1)) tt
 
 returns-7 : tie.Need-returns-7
 returns-7 c =
-    subst (λ i. WaitAs (c .before .before .args .run) (c .before .before .args .task) (c .before .before .args .place) i Held) (sym (c .enum-told4 .given .1)) tt
+    let a = c .before .before .args in
+    λ run m e.
+    subst (λ i. WaitAs (looking (now (a .order)) (now (a .modes)) run) (a .task) (a .place) i Held) (sym (c .enum-told4 .given .1)) tt
 
 returns-8 : tie.Need-returns-8
 returns-8 c =
-    subst (λ i. WaitAs (c .before .before .args .run) (c .before .before .args .task) (c .before .before .args .place) i Held) (sym (c .enum-told5 .given .1)) tt
+    let a = c .before .before .args in
+    λ run m e.
+    subst (λ i. WaitAs (looking (now (a .order)) (now (a .modes)) run) (a .task) (a .place) i Held) (sym (c .enum-told5 .given .1)) tt
 
 returns-9 : tie.Need-returns-9
 returns-9 c =
-    subst (λ i. WaitAs (c .before .before .args .run) (c .before .before .args .task) (c .before .before .args .place) i Held) (sym (c .enum-told6 .given .1)) tt
+    let a = c .before .before .args in
+    λ run m e.
+    subst (λ i. WaitAs (looking (now (a .order)) (now (a .modes)) run) (a .task) (a .place) i Held) (sym (c .enum-told6 .given .1)) tt
 
 pub waiting-plan-spec : {M : Type 1} → statement M
 waiting-plan-spec =

@@ -1,6 +1,6 @@
 -- Refusals in turn, then the plan of the instruction.
 -- Assumes nothing.
-use mathlib.Core.Path.{sym, subst, _∙_}
+use mathlib.Core.Path.{refl, sym, subst, _∙_}
 use native.Mathlib.Omega.{arith}
 use Rattle.runtime.proofs.StepLaws.{step-waiting, step-finished, step-settled, held-refused}
 use Rattle.runtime.specs.Parts.{LocatedAs}
@@ -83,11 +83,11 @@ code-of-requires c κs = search needs
 
 plan-of-requires : tie.Need-plan-of-requires
 plan-of-requires c κs =
-    let run = c .before .before .before .before .before .before .before .before .before .before .before .before .before .before .args .t1 in
-    let n = c .before .before .before .before .before .before .before .before .before .before .before .before .before .before .args .task in
-    let place = c .before .before .before .before .before .before .before .before .before .before .before .found2 .given .0 .0 in
-    let there = subst (LocatedAs run n) (c .before .before .before .before .before .before .before .before .before .before .before .found2 .given .1) (c .before .before .before .before .before .before .before .before .before .before .before .before .before .place-of .ensures) in
-    (there .0, c .code-of .ensures .0)
+    let run = c .before .before .before .before .before .before .before .before .before .before .before .before .before .before .before .before .before .before .before .args .t1 in
+    let n = c .before .before .before .before .before .before .before .before .before .before .before .before .before .before .before .before .before .before .before .args .task in
+    let place = c .before .before .before .before .before .before .before .before .before .before .before .before .before .before .before .before .found2 .given .0 .0 in
+    let there = subst (LocatedAs run n) (c .before .before .before .before .before .before .before .before .before .before .before .before .before .before .before .before .found2 .given .1) (c .before .before .before .before .before .before .before .before .before .before .before .before .before .before .before .before .before .before .place-of .ensures) in
+    (there .0, c .before .before .before .before .before .code-of .ensures .0)
 
 is-held-requires : tie.Need-is-held-requires
 is-held-requires c κs = search needs
@@ -95,21 +95,21 @@ is-held-requires c κs = search needs
 returns-3 : tie.Need-returns-3
 unfolding refusal-number
 returns-3 c =
-    let run = c .before .before .before .before .before .before .before .before .before .before .before .before .before .before .before .before .before .args .t1 in
-    let n = c .before .before .before .before .before .before .before .before .before .before .before .before .before .before .before .before .before .args .task in
-    let place = c .before .before .before .before .before .before .before .before .before .before .before .before .before .before .found2 .given .0 .0 in
-    let there = subst (LocatedAs run n) (c .before .before .before .before .before .before .before .before .before .before .before .before .before .before .found2 .given .1) (c .before .before .before .before .before .before .before .before .before .before .before .before .before .before .before .before .place-of .ensures) in
-    λ s. step-settled run n (there .0) s place (there .1 s) (c .before .before .before .before .before .before .before .before .before .before .if1 .left) (c .before .before .before .before .before .before .before .before .before .at-end .result) (c .before .before .before .before .before .before .before .before .before .at-end .ensures (there .0) s) (c .before .before .before .before .before .before .before .before .if2 .left) (c .before .before .before .before .instruction-at .result) (c .before .before .before .code-of .result) (c .before .before .before .before .instruction-at .ensures) (c .before .before .before .code-of .ensures .0) (c .before .before .plan-of .result) (c .before .before .plan-of .ensures)
-    ∙ held-refused run n (weight-of (context-of run) (c .before .before .before .code-of .result + 2)) (c .before .before .plan-of .result) (sym (c .before .is-held .ensures) ∙ c .if3 .taken)
+    let run = c .before .before .before .before .before .before .before .before .before .before .before .before .before .before .before .before .before .before .before .before .before .before .args .t1 in
+    let n = c .before .before .before .before .before .before .before .before .before .before .before .before .before .before .before .before .before .before .before .before .before .before .args .task in
+    let place = c .before .before .before .before .before .before .before .before .before .before .before .before .before .before .before .before .before .before .before .found2 .given .0 .0 in
+    let there = subst (LocatedAs run n) (c .before .before .before .before .before .before .before .before .before .before .before .before .before .before .before .before .before .before .before .found2 .given .1) (c .before .before .before .before .before .before .before .before .before .before .before .before .before .before .before .before .before .before .before .before .before .place-of .ensures) in
+    λ s. step-settled run n (there .0) s place (there .1 s) (c .before .before .before .before .before .before .before .before .before .before .before .before .before .before .before .if1 .left) (c .before .before .before .before .before .before .before .before .before .before .before .before .before .before .at-end .result) (c .before .before .before .before .before .before .before .before .before .before .before .before .before .before .at-end .ensures (there .0) s) (c .before .before .before .before .before .before .before .before .before .before .before .before .before .if2 .left) (c .before .before .before .before .before .before .before .before .before .instruction-at .result) (c .before .before .before .before .before .before .before .before .code-of .result) (c .before .before .before .before .before .before .before .before .before .instruction-at .ensures) (c .before .before .before .before .before .before .before .before .code-of .ensures .0) (c .before .before .plan-of .result) (c .before .before .plan-of .ensures run refl refl)
+    ∙ held-refused run n (weight-of (context-of run) (c .before .before .before .before .before .before .before .before .code-of .result + 2)) (c .before .before .plan-of .result) (sym (c .before .is-held .ensures) ∙ c .if3 .taken)
 
-add-t24 : tie.Need-add-t24
-add-t24 c = search needs
+add-t17 : tie.Need-add-t17
+add-t17 c = search needs
 
-mul-t15 : tie.Need-mul-t15
-mul-t15 c = search needs
+mul-t26 : tie.Need-mul-t26
+mul-t26 c = search needs
 
-array-read-t30 : tie.Need-array-read-t30
-array-read-t30 c = search needs
+array-read-t34 : tie.Need-array-read-t34
+array-read-t34 c = search needs
 
 returns-4 : tie.Need-returns-4
 returns-4 c =
@@ -118,16 +118,16 @@ returns-4 c =
 returns-5 : tie.Need-returns-5
 unfolding weight-of fixed-weights
 returns-5 c =
-    let run = c .before .before .before .before .before .before .before .before .before .before .before .before .before .before .before .before .before .args .t1 in
-    let n = c .before .before .before .before .before .before .before .before .before .before .before .before .before .before .before .before .before .args .task in
-    let place = c .before .before .before .before .before .before .before .before .before .before .before .before .before .before .found2 .given .0 .0 in
-    let there = subst (LocatedAs run n) (c .before .before .before .before .before .before .before .before .before .before .before .before .before .before .found2 .given .1) (c .before .before .before .before .before .before .before .before .before .before .before .before .before .before .before .before .place-of .ensures) in (
+    let run = c .before .before .before .before .before .before .before .before .before .before .before .before .before .before .before .before .before .before .before .before .before .before .args .t1 in
+    let n = c .before .before .before .before .before .before .before .before .before .before .before .before .before .before .before .before .before .before .before .before .before .before .args .task in
+    let place = c .before .before .before .before .before .before .before .before .before .before .before .before .before .before .before .before .before .before .before .found2 .given .0 .0 in
+    let there = subst (LocatedAs run n) (c .before .before .before .before .before .before .before .before .before .before .before .before .before .before .before .before .before .before .before .found2 .given .1) (c .before .before .before .before .before .before .before .before .before .before .before .before .before .before .before .before .before .before .before .before .before .place-of .ensures) in (
       there .0,
       sym (c .before .is-held .ensures) ∙ c .if3 .left,
-      (unfold weight-of fixed-weights in fixed-light (list-of (run .tables)) (c .before .before .before .code-of .result + 2)),
+      (unfold weight-of fixed-weights in fixed-light (list-of (run .tables)) (c .before .before .before .before .before .before .before .before .code-of .result + 2)),
       λ s. (
         there .1 s,
-        step-settled run n (there .0) s place (there .1 s) (c .before .before .before .before .before .before .before .before .before .before .if1 .left) (c .before .before .before .before .before .before .before .before .before .at-end .result) (c .before .before .before .before .before .before .before .before .before .at-end .ensures (there .0) s) (c .before .before .before .before .before .before .before .before .if2 .left) (c .before .before .before .before .instruction-at .result) (c .before .before .before .code-of .result) (c .before .before .before .before .instruction-at .ensures) (c .before .before .before .code-of .ensures .0) (c .before .before .plan-of .result) (c .before .before .plan-of .ensures),
+        step-settled run n (there .0) s place (there .1 s) (c .before .before .before .before .before .before .before .before .before .before .before .before .before .before .before .if1 .left) (c .before .before .before .before .before .before .before .before .before .before .before .before .before .before .at-end .result) (c .before .before .before .before .before .before .before .before .before .before .before .before .before .before .at-end .ensures (there .0) s) (c .before .before .before .before .before .before .before .before .before .before .before .before .before .if2 .left) (c .before .before .before .before .before .before .before .before .before .instruction-at .result) (c .before .before .before .before .before .before .before .before .code-of .result) (c .before .before .before .before .before .before .before .before .before .instruction-at .ensures) (c .before .before .before .before .before .before .before .before .code-of .ensures .0) (c .before .before .plan-of .result) (c .before .before .plan-of .ensures run refl refl),
       ),
     )
 
@@ -150,8 +150,8 @@ step-plan-spec =
     plan-of-requires
     is-held-requires
     returns-3
-    add-t24
-    mul-t15
-    array-read-t30
+    add-t17
+    mul-t26
+    array-read-t34
     returns-4
     returns-5)

@@ -1,10 +1,10 @@
 -- What start, step and end promise: document 01, "Calls" and "Refused, by operation".
-use Prim.Native.Nat.{ℕ}
+use Prim.Native.Nat.{ℕ, zero, suc}
 use mathlib.Core.Path.{_≡_}
-use mathlib.Core.List.{List}
+use mathlib.Core.List.{List, [], _∷_}
 use Rattle.semantics.specs.declared.CallRefusal.{CallRefusal}
 use Rattle.semantics.specs.declared.Answer.the-variants.{Refused}
-use Rattle.semantics.specs.Plan.{Action}
+use Rattle.semantics.specs.Plan.{Action, start, step, «end»}
 use Rattle.semantics.specs.Call.{Call, Outcome, decide, after, after-all}
 use Rattle.semantics.specs.Answers.{answer-number, outcome-number}
 use Rattle.runtime.specs.declared.Run.{Run}
@@ -28,6 +28,13 @@ pub record CalledAs (a : Action) (from : Run) (n : ℕ) (r : Called) : Type 0 wh
   -- of every run: the list is kept, and "a refused call leaves it as it was"
   pub list : r .run .tables ≡ from .tables
   pub refused : (k : CallRefusal) → r .answer ≡ Refused k → r .run ≡ from
+
+-- "0 start, 1 step, 2 end, then the job"; another kind is no call
+unfoldable pub calls-of-kind : ℕ → ℕ → List Call
+calls-of-kind zero n = call-of start n ∷ []
+calls-of-kind (suc zero) n = call-of step n ∷ []
+calls-of-kind (suc (suc zero)) n = call-of «end» n ∷ []
+calls-of-kind (suc (suc (suc k))) n = []
 
 -- these calls on the run `from`, one after the other, and the run that they leave
 pub record CallsMade (calls : List Call) (from r : Run) : Type 0 where

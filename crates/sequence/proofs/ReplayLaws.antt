@@ -23,9 +23,9 @@ use Rattle.runtime.specs.declared.Run.{Run}
 use Rattle.runtime.specs.declared.Opened.{Opened}
 use Rattle.runtime.specs.declared.OpenAnswer.the-variants.{Accepted}
 use Rattle.runtime.specs.View.{model, context-of, SoundRun, blank-run}
-use Rattle.runtime.specs.Calls.{call-of, CallsMade}
+use Rattle.runtime.specs.Calls.{calls-of-kind, call-of, CallsMade}
 use Rattle.runtime.specs.Asked.{open-number, Unopened, OpenedAs}
-use Rattle.sequence.specs.Replays.{calls-of-kind, calls-of, ReplayedAs}
+use Rattle.sequence.specs.Replays.{calls-of, ReplayedAs}
 
 pub after-append :
     (c : Context) (r : Semantics.Run) (bs ds : List Call) → after-all c r (bs ++ ds) ≡ after-all c (after-all c r bs) ds

@@ -1,12 +1,12 @@
 -- What replay and the sequential run promise: document 01, "Calls", and demand 3.
-use Prim.Native.Nat.{ℕ, zero, suc, _≤_, _<_}
+use Prim.Native.Nat.{ℕ, _≤_, _<_}
 use mathlib.Core.Path.{_≡_}
 use mathlib.Core.List.{List, [], _∷_, _++_}
 use Rattle.tasklist.specs.Decode.{decode, accepted}
 use Rattle.tasklist.specs.Tables.{list-of}
 use Rattle.semantics.specs.Run.{initial}
 use Rattle.semantics.specs.Run as Semantics
-use Rattle.semantics.specs.Plan.{start, step, «end»}
+use Rattle.semantics.specs.Plan.{step}
 use Rattle.semantics.specs.Call.{Call, after-all}
 use Rattle.semantics.specs.Sequential.{made-by, run-whole}
 use Rattle.semantics.specs.Operations.{Asked, denies, gives}
@@ -14,16 +14,9 @@ use Rattle.semantics.proofs.Guarantee.{Guarantee}
 use Rattle.runtime.specs.declared.Run.{Run}
 use Rattle.runtime.specs.declared.Opened.{Opened}
 use Rattle.runtime.specs.View.{model, context-of, SoundRun}
-use Rattle.runtime.specs.Calls.{call-of, decided, CallsMade}
+use Rattle.runtime.specs.Calls.{call-of, calls-of-kind, decided, CallsMade}
 use Rattle.runtime.specs.Parts.{Placed}
 use Rattle.runtime.specs.Asked.{open-number, Unopened}
-
--- "0 start, 1 step, 2 end, then the job"; another kind is no call
-unfoldable pub calls-of-kind : ℕ → ℕ → List Call
-calls-of-kind zero n = call-of start n ∷ []
-calls-of-kind (suc zero) n = call-of step n ∷ []
-calls-of-kind (suc (suc zero)) n = call-of «end» n ∷ []
-calls-of-kind (suc (suc (suc k))) n = []
 
 -- the calls of these kinds on these tasks, as many as the shorter list has
 unfoldable pub calls-of : List ℕ → List ℕ → List Call

@@ -1,7 +1,7 @@
 // Demand 3 over the code: a run is opened, then a list of calls is made on it by start, step and end.
 ghost use Rattle.semantics.specs.Operations.{open-asked};
-ghost use Rattle.runtime.specs.Calls.{CallsMade};
-ghost use Rattle.sequence.specs.Replays.{calls-of-kind, calls-of, ReplayedAs};
+ghost use Rattle.runtime.specs.Calls.{calls-of-kind, CallsMade};
+ghost use Rattle.sequence.specs.Replays.{calls-of, ReplayedAs};
 use runtime::OpenAnswer;
 use runtime::Opened;
 use runtime::Run;
@@ -11,13 +11,16 @@ fn called(run: Run, kind: u8, task: u32) -> Run
     ensures { λ r. ⌜ CallsMade (calls-of-kind kind task) run r ⌝ }
 {
     if kind == 0 {
-        return run.started(task);
+        let done = run.start(task);
+        return done.run;
     }
     if kind == 1 {
-        return run.stepped(task);
+        let done = run.step(task);
+        return done.run;
     }
     if kind == 2 {
-        return run.ended(task);
+        let done = run.end(task);
+        return done.run;
     }
     run
 }

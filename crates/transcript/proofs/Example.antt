@@ -17,7 +17,7 @@ use Rattle.semantics.specs.Call.{hold, admit, settle, among, decide, edited, wr
 use Rattle.semantics.specs.Operations.{with-list}
 use Rattle.semantics.specs.Answers.{outcome-number}
 use Rattle.semantics.specs.Case.{same}
-use Rattle.runtime.specs.Replays.{calls-of-kind}
+use Rattle.runtime.specs.Calls.{calls-of-kind}
 use Rattle.transcript.specs.Transcript as Lines
 use Rattle.transcript.specs.Transcript.{digits-within, digits, followed, totals, closing, lines-from, refused-line, printed, transcript}
 

@@ -9,7 +9,7 @@ use Rattle.semantics.specs.Run as Semantics
 use Rattle.semantics.specs.Run.{Context}
 use Rattle.runtime.specs.declared.Run.{Run}
 use Rattle.runtime.specs.View.{model, context-of, SoundRun}
-use Rattle.runtime.specs.Replays.{calls-of-kind}
+use Rattle.runtime.specs.Calls.{calls-of-kind}
 use Rattle.transcript.specs.declared.Made.{Made}
 use Rattle.transcript.specs.declared.Pending.{Pending}
 use Rattle.transcript.specs.declared.Pending.the-variants.{Nothing, Kind}

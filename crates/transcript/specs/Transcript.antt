@@ -12,7 +12,7 @@ use Rattle.semantics.specs.Run.{Run, Context, initial}
 use Rattle.semantics.specs.Call.{Call, decide, after-all}
 use Rattle.semantics.specs.Operations.{Asked, denies, gives, with-list}
 use Rattle.semantics.specs.Answers.{outcome-number}
-use Rattle.runtime.specs.Replays.{calls-of-kind}
+use Rattle.runtime.specs.Calls.{calls-of-kind}
 
 -- the digits of a number, with so many steps to spare
 unfoldable pub digits-within : ℕ → ℕ → List ℕ

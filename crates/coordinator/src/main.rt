@@ -1,12 +1,14 @@
 // The coordinator: opens a run of jobs.bin and library.bin, makes the calls of standard input and prints a line for each.
 // It only moves bytes; what it prints comes from the crate `transcript`.
-ghost use Prim.Native.Nat.{_≤_};
+ghost use Prim.Native.Nat.{_+_, _*_, _/_, _≤_};
 ghost use mathlib.Core.Path.{_≡_};
 ghost use lib.ListN.{length, take};
+ghost use Rattle.transcript.specs.Promises.{FedAs};
 ghost use Rattle.coordinator.specs.Files.{size-of, Within};
 use libc::STDIN_FILENO;
 use libc::STDOUT_FILENO;
 use runtime::Run;
+use transcript::Fed;
 use transcript::Pending;
 
 // What came of reading a file.
@@ -66,6 +68,14 @@ fn size_of(read: FileRead) -> usize
     }
 }
 
+// Feeds a piece where there is room for all its lines: the whole of it is used.
+fn fed_whole(run: Run, pending: Pending, piece: &[u8], out: &mut [u8]) -> Fed
+    requires { ⌜ 3 * (length (now piece) / 2 + 1) ≤ length (now out) ⌝ }
+    ensures { λ r. ⌜ FedAs run pending (now (piece .entry)) (now (out .entry)) (now (out .exit)) r × (r .used ≡ length (now (piece .entry))) ⌝ }
+{
+    transcript::feed(run, pending, piece, out)
+}
+
 // Reads a piece of the input, makes its calls and prints their lines. A read that fails counts as the input's end.
 fn take_turn(run: Run, pending: Pending) -> Turn {
     let mut piece = io::buffer();
@@ -79,7 +89,7 @@ fn take_turn(run: Run, pending: Pending) -> Turn {
         };
     }
     let mut out = [0u8; 8192];
-    let fed = transcript::feed(run, pending, &piece[..n], &mut out);
+    let fed = fed_whole(run, pending, &piece[..n], &mut out);
     let wrote = fed.wrote;
     io::write_all(STDOUT_FILENO, &out[..wrote]);
     let next = fed.run;

@@ -91,10 +91,10 @@ abbrev pub Method : (Run → ℕ → Called → Type 0) → {M : Type 1} (𝓤 :
 Method Ok 𝓤 H A = tripleOf 𝓤 H A (method .signature) (closing 𝓤 H A method (promised Ok 𝓤))
 
 -- ---- machine values
-abbrev run-val : Run → Val
+abbrev pub run-val : Run → Val
 run-val h = SL.val R.the-type R′.the-laws h
 
-abbrev answer-val : Answer → Val
+abbrev pub answer-val : Answer → Val
 answer-val a = EL.val E.the-type E′.the-laws a
 
 abbrev called-val : Called → Val

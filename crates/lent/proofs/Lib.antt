@@ -1,1 +1,4 @@
 pub mod CallWalk
+pub mod LendLaws
+pub mod LendWalk
+pub mod PieceLaws

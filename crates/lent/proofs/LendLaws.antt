@@ -16,11 +16,10 @@ use Rattle.semantics.specs.Plan.{start, step, «end»}
 use Rattle.semantics.specs.Answers.{answer-number}
 use Rattle.runtime.specs.declared.Run.{Run}
 use Rattle.runtime.specs.View.{model, context-of, SoundRun}
-use Rattle.runtime.specs.Calls.{CalledAs}
 use Rattle.runtime.specs.Replays.{calls-of-kind, CallsMade}
 use Rattle.lent.specs.declared.Piece.{Piece}
 use Rattle.lent.specs.declared.Lent.{Lent}
-use Rattle.lent.specs.Handed.{handed}
+use Rattle.lent.specs.Handed.{CalledIn}
 use Rattle.lent.specs.Lines.{calls-in, line, lines}
 use Rattle.lent.specs.Pieces.{rest, said, Facing, Ready, NotedAs, PieceOf, LentAs, LentOf}
 use Rattle.runtime.proofs.ReplayLaws.{no-calls, calls-append, kind-start, kind-step, kind-end, other-kind, kind-none}
@@ -125,20 +124,20 @@ module _ (p₀ : Piece) (from h : Run) (p : Piece) (inv : Inv p₀ from h p) whe
             ∙ append-assoc (said p) (x ∷ []) (lines c (model h′) (drop 2 (rest p)))
             ∙ ap (λ l. said p ++ l) (turn-lines (rest p) (p .more) (p .kind) (p .task) (inv .ready y .facing) yes c (model h) (model h′) x (m .run (inv .sound s) ∙ ap (λ w. after-all w (model h) (calls-of-kind (p .kind) (p .task))) same) (e (inv .sound s) ∙ ap (λ w. line w (model h) (p .kind) (p .task)) same))
 
-    pub by-start : p .kind ≡ 0 → (a : Answer) (h′ : Run) (p′ : Piece) → CalledAs start h (p .task) (handed a h′) → NotedAs (answer-number a) p p′ → Inv p₀ from h′ p′
+    pub by-start : p .kind ≡ 0 → (a : Answer) (h′ : Run) (p′ : Piece) → CalledIn start h (p .task) a h′ → NotedAs (answer-number a) p p′ → Inv p₀ from h′ p′
     unfolding line
     by-start k a h′ p′ c n =
-        turned (answer-number a) h′ p′ (kind-start h (p .kind) (p .task) k (handed a h′) c) (λ s. c .answer s ∙ ap (λ j. line (context-of h) (model h) j (p .task)) (sym k)) n
+        turned (answer-number a) h′ p′ (kind-start h (p .kind) (p .task) k (record { answer = a; run = h′ }) c) (λ s. c .answer s ∙ ap (λ j. line (context-of h) (model h) j (p .task)) (sym k)) n
 
-    pub by-step : p .kind ≡ 1 → (a : Answer) (h′ : Run) (p′ : Piece) → CalledAs step h (p .task) (handed a h′) → NotedAs (answer-number a) p p′ → Inv p₀ from h′ p′
+    pub by-step : p .kind ≡ 1 → (a : Answer) (h′ : Run) (p′ : Piece) → CalledIn step h (p .task) a h′ → NotedAs (answer-number a) p p′ → Inv p₀ from h′ p′
     unfolding line
     by-step k a h′ p′ c n =
-        turned (answer-number a) h′ p′ (kind-step h (p .kind) (p .task) k (handed a h′) c) (λ s. c .answer s ∙ ap (λ j. line (context-of h) (model h) j (p .task)) (sym k)) n
+        turned (answer-number a) h′ p′ (kind-step h (p .kind) (p .task) k (record { answer = a; run = h′ }) c) (λ s. c .answer s ∙ ap (λ j. line (context-of h) (model h) j (p .task)) (sym k)) n
 
-    pub by-end : p .kind ≡ 2 → (a : Answer) (h′ : Run) (p′ : Piece) → CalledAs «end» h (p .task) (handed a h′) → NotedAs (answer-number a) p p′ → Inv p₀ from h′ p′
+    pub by-end : p .kind ≡ 2 → (a : Answer) (h′ : Run) (p′ : Piece) → CalledIn «end» h (p .task) a h′ → NotedAs (answer-number a) p p′ → Inv p₀ from h′ p′
     unfolding line
     by-end k a h′ p′ c n =
-        turned (answer-number a) h′ p′ (kind-end h (p .kind) (p .task) k (handed a h′) c) (λ s. c .answer s ∙ ap (λ j. line (context-of h) (model h) j (p .task)) (sym k)) n
+        turned (answer-number a) h′ p′ (kind-end h (p .kind) (p .task) k (record { answer = a; run = h′ }) c) (λ s. c .answer s ∙ ap (λ j. line (context-of h) (model h) j (p .task)) (sym k)) n
 
     pub by-none : (p .kind ≡ 0 → ⊥) → (p .kind ≡ 1 → ⊥) → (p .kind ≡ 2 → ⊥) → (p′ : Piece) → NotedAs 18 p p′ → Inv p₀ from h p′
     by-none q s u p′ n =

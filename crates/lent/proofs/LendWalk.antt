@@ -1,5 +1,5 @@
 -- What the lender's walk does at each call: the run in its local is lent for a lifetime made for the call, the function that takes it by
--- `&mut` is called, and the run comes back as that function left it; and the call that notes the number. Over any code, context and relation `Ok`.
+-- `&mut` is called, and the run comes back as that function left it; and the call that notes the number. Over any code, context and action.
 -- When `Run`, `Piece` or `Answer` gains a field or a variant nothing here changes: each is named by its row and its laws alone.
 -- Assumes nothing.
 use mathlib.Core.Path.{_≡_, refl}
@@ -36,8 +36,8 @@ use denote.Triple.Spec.{tripleOf}
 use denote.Triple.Clauses.{Clauses, Ended, Lasts, ensured, lasts, closing}
 use denote.Exit.{yes}
 use Rattle.semantics.specs.declared.Answer.{Answer}
+use Rattle.semantics.specs.Plan.{Action}
 use Rattle.runtime.specs.declared.Run.{Run}
-use Rattle.runtime.specs.declared.Called.{Called}
 use Rattle.lent.specs.declared.Piece.{Piece}
 use Rattle.semantics.proofs.Answer as E
 use Rattle.semantics.proofs.Answer.Laws as E′
@@ -46,17 +46,17 @@ use Rattle.runtime.proofs.Run.Laws as R′
 use Rattle.lent.proofs.Piece as P
 use Rattle.lent.proofs.Piece.Laws as P′
 use Rattle.semantics.specs.Answers.{answer-number}
-use Rattle.lent.specs.Handed.{handed}
+use Rattle.lent.specs.Handed.{CalledIn}
 use Rattle.lent.specs.Pieces.{NotedAs}
 use Rattle.lent.proofs.CallWalk.{ended, clauses, run-val, answer-val}
 
 abbrev pub piece-val : Piece → Val
 piece-val p = SL.val P.the-type P′.the-laws p
 
-module _ (Ok : Run → ℕ → Called → Type 0) {M : Type 1} {𝓤 : URA M} {H : Heap 𝓤} {A : Atoms 𝓤} (W : Given 𝓤 H A) where
+module _ (act : Action) {M : Type 1} {𝓤 : URA M} {H : Heap 𝓤} {A : Atoms 𝓤} (W : Given 𝓤 H A) where
   -- what a function that takes the run by `&mut` meets
   abbrev pub In : Contract 𝓤
-  In = tripleOf 𝓤 H A (ended .signature) (closing 𝓤 H A ended (clauses Ok 𝓤))
+  In = tripleOf 𝓤 H A (ended .signature) (closing 𝓤 H A ended (clauses act 𝓤))
 
   abbrev lent-ref : ℕ → GName → Run → RefT Run
   lent-ref l δ h = record { ptr = (l, 0); name = δ; now = h }
@@ -96,7 +96,7 @@ module _ (Ok : Run → ℕ → Called → Type 0) {M : Type 1} {𝓤 : URA M} {H
     -- the run at the head of the context is lent to a call of f
     pub lent-call : FmC 𝓤 H (W .laws) C → Triple 𝓤 (C f) In → (l : ℕ) (h : Run) (n : ℕ) → n < 2 ^ 32 → Is R.the-row h (run-val h ∷ [])
         → ((α : ℕ) (δ : GName) → Opds (Go {0}) W (raw (In .pre (to-in α l δ h n)) ∷ ‵ (flent (α ∷ []) (Body (mem R.the-row) l 0 δ)) ∷ Γ) Ev xs (vptr l 0 ∷ vint w32 n ∷ []))
-        → ((v : Val) (a : Answer) (h′ : Run) → Ok h n (handed a h′) → Is E.the-row a (v ∷ []) → Is R.the-row h′ (run-val h′ ∷ []) → Sq W (cell l h′ ∷ Γ) (lands C Λ Ev d v after q))
+        → ((v : Val) (a : Answer) (h′ : Run) → CalledIn act h n a h′ → Is E.the-row a (v ∷ []) → Is R.the-row h′ (run-val h′ ∷ []) → Sq W (cell l h′ ∷ Γ) (lands C Λ Ev d v after q))
         → Sq W (cell l h ∷ Γ) (runs C Λ Ev (seq (call f xs d) after) q)
     lent-call fm known l h n fits is operands k =
         use1 W (‵ (partAt R.the-row fullShare h l 0)) (lies l h is) $
@@ -106,8 +106,8 @@ module _ (Ok : Run → ℕ → Called → Type 0) {M : Type 1} {𝓤 : URA M} {H
         -- [what the function asks; the lender's part; …]
         calls-at ! fm In known (to-in α l δ h n) (operands α δ) (λ v.
         use1 W (later (some (λ (a : Answer). ((‵ (flft (α ∷ []) fullShare) ⊛ ‵ ftrue) ⊛ ‵ (E.the-row .own a (v ∷ [])))
-        ⊛ some (λ (ws : Lasts ended (α ∷ [], tt) (lent-ref l δ h, (n, tt))). ‵ (lasts ended (α ∷ [], tt) (lent-ref l δ h, (n, tt)) ws) ⊛ raw (fact 𝓤 (Ok h n (handed a (ws .0)))))))) (id⊢ 𝓤 _) $ await ! tt $ pick ! (λ a.
-        split ! $ move ! (1 ∷ []) $ pick ! (λ ws. split ! $ move ! (1 ∷ []) $ heard ! (Ok h n (handed a (ws .0))) (λ ok. fsplit ! $ move ! (2 ∷ []) $ split ! $ split ! $
+        ⊛ some (λ (ws : Lasts ended (α ∷ [], tt) (lent-ref l δ h, (n, tt))). ‵ (lasts ended (α ∷ [], tt) (lent-ref l δ h, (n, tt)) ws) ⊛ raw (fact 𝓤 (CalledIn act h n a (ws .0))))))) (id⊢ 𝓤 _) $ await ! tt $ pick ! (λ a.
+        split ! $ move ! (1 ∷ []) $ pick ! (λ ws. split ! $ move ! (1 ∷ []) $ heard ! (CalledIn act h n a (ws .0)) (λ ok. fsplit ! $ move ! (2 ∷ []) $ split ! $ split ! $
         -- [the token; true; what the answer owns; the run's last value; …; the lender's part; …]
         lft-end ! tt $ move ! (0 ∷ 5 ∷ 3 ∷ []) $ use3 W (later (‵ (partAt R.the-row fullShare (ws .0) l 0))) (ref-back 𝓤 H A W R.the-row (α ∷ []) δ (ws .0) l 0) $ await ! tt $
         stands l (ws .0) (λ is′. move ! (2 ∷ []) $ facts ! E.the-row (Is E.the-row) (shows 𝓤 H A E.the-row) a (v ∷ []) (λ isa.

@@ -1,8 +1,7 @@
 // A run that is lent: start, step and end on a run behind a `&mut`, over the by-value methods of the crate `runtime`; and
 // the lender, which holds one run and lends it to each call of a piece of input.
 ghost use Rattle.semantics.specs.Plan.{start, step, «end»};
-ghost use Rattle.runtime.specs.Calls.{CalledAs};
-ghost use Rattle.lent.specs.Handed.{handed};
+ghost use Rattle.lent.specs.Handed.{CalledIn};
 ghost use Rattle.lent.specs.Pieces.{LentAs, LentOf};
 use runtime::Run;
 use semantics::Answer;
@@ -35,7 +34,7 @@ use pieces::strayed;
 
 // Starts a task of the run that is lent.
 pub fn start_in(run: &mut Run, task: u32) -> Answer
-    ensures { λ r. ⌜ CalledAs start (now (run .entry)) task (handed r (now (run .exit))) ⌝ }
+    ensures { λ r. ⌜ CalledIn start (now (run .entry)) task r (now (run .exit)) ⌝ }
 {
     let c = (*run).start(task);
     *run = c.run;
@@ -44,7 +43,7 @@ pub fn start_in(run: &mut Run, task: u32) -> Answer
 
 // Does one step of a task of the run that is lent.
 pub fn step_in(run: &mut Run, task: u32) -> Answer
-    ensures { λ r. ⌜ CalledAs step (now (run .entry)) task (handed r (now (run .exit))) ⌝ }
+    ensures { λ r. ⌜ CalledIn step (now (run .entry)) task r (now (run .exit)) ⌝ }
 {
     let c = (*run).step(task);
     *run = c.run;
@@ -53,7 +52,7 @@ pub fn step_in(run: &mut Run, task: u32) -> Answer
 
 // Ends a task of the run that is lent.
 pub fn end_in(run: &mut Run, task: u32) -> Answer
-    ensures { λ r. ⌜ CalledAs «end» (now (run .entry)) task (handed r (now (run .exit))) ⌝ }
+    ensures { λ r. ⌜ CalledIn «end» (now (run .entry)) task r (now (run .exit)) ⌝ }
 {
     let c = (*run).end(task);
     *run = c.run;

@@ -2,7 +2,7 @@
 ghost use Prim.Native.Nat.{_≤_, _<_};
 ghost use mathlib.Core.Path.{_≡_};
 ghost use lib.ListN.{length, take};
-ghost use Rattle.semantics.specs.Answers.{answer-number};
+ghost use Rattle.semantics.specs.Answers.{answer-number, refusal-number};
 ghost use Rattle.lent.specs.Pieces.{FacedAs, NotedAs, PieceOf};
 use crate::Piece;
 use semantics::Answer;
@@ -10,7 +10,7 @@ use semantics::CallRefusal;
 
 // "0 or the refusal"
 fn refusal_number(refusal: CallRefusal) -> u8
-    ensures { λ r. ⌜ r ≡ Rattle.semantics.specs.Answers.refusal-number refusal ⌝ }
+    ensures { λ r. ⌜ r ≡ refusal-number refusal ⌝ }
 {
     match refusal {
         CallRefusal::Number => 9,

@@ -42,12 +42,10 @@ use Rattle.semantics.specs.Answers.{answer-number}
 use Rattle.semantics.proofs.Answer as E
 use Rattle.semantics.proofs.Answer.Laws as E′
 use Rattle.runtime.specs.declared.Run.{Run}
-use Rattle.runtime.specs.Calls.{CalledAs}
 use Rattle.runtime.proofs.Run as R
 use Rattle.runtime.proofs.Run.Laws as R′
 use Rattle.lent.specs.declared.Piece.{Piece}
 use Rattle.lent.specs.declared.Lent.{Lent}
-use Rattle.lent.specs.Handed.{handed}
 use Rattle.lent.specs.Pieces.{NotedAs, turns}
 use Rattle.lent.proofs.Piece as P
 use Rattle.lent.proofs.Piece.Laws as P′
@@ -156,7 +154,7 @@ module _ {M : Type 1} (𝓤 : URA M) (H : Heap 𝓤) (A : Atoms 𝓤) (W : Given
       owned ! R.the-row (Is R.the-row) (SL.makes R.the-type R′.the-plain 𝓤 H A) h₀ _ isr₀ $ fjoin ! $ nothing ! $ done !
 
   module _ (𝓣 : Tables 𝓤 H) (fm : FmC 𝓤 H (W .laws) (𝓣 .C))
-      (known-start : Triple 𝓤 (𝓣 .C start-def.name) (In (CalledAs start) W)) (known-step : Triple 𝓤 (𝓣 .C step-def.name) (In (CalledAs step) W)) (known-end : Triple 𝓤 (𝓣 .C end-def.name) (In (CalledAs «end») W))
+      (known-start : Triple 𝓤 (𝓣 .C start-def.name) (In start W)) (known-step : Triple 𝓤 (𝓣 .C step-def.name) (In step W)) (known-end : Triple 𝓤 (𝓣 .C end-def.name) (In «end» W))
       (known-noted : Triple 𝓤 (𝓣 .C noted-def.name) (Notes W)) (known-strayed : Triple 𝓤 (𝓣 .C strayed-def.name) (Strays W)) where
     module _ (l₀ l₁ l₂ l₃ l₄ l₅ l₆ l₇ l₈ l₉ l₁₀ l₁₁ l₁₂ : ℕ) where
       abbrev C : Calls 𝓤 H
@@ -177,7 +175,7 @@ module _ {M : Type 1} (𝓤 : URA M) (H : Heap 𝓤) (A : Atoms 𝓤) (W : Given
 
       -- the context at the head of a turn
       abbrev I : State h₀ p₀ → List (Item 𝓤)
-      I x = cell (CalledAs start) W l₃ (x .run) ∷ ‵ (fat fullShare P′.mir l₄ 0 (piece-val (x .piece))) ∷ ‵ (froom tyBool l₅ 0) ∷ Frame
+      I x = cell start W l₃ (x .run) ∷ ‵ (fat fullShare P′.mir l₄ 0 (piece-val (x .piece))) ∷ ‵ (froom tyBool l₅ 0) ∷ Frame
 
       -- what follows the loop
       abbrev Qt : State h₀ p₀ → Post 𝓤 H
@@ -202,7 +200,7 @@ module _ {M : Type 1} (𝓤 : URA M) (H : Heap 𝓤) (A : Atoms 𝓤) (W : Given
           switches ! (load ! (from ! (fld ! refl (stop !))) (look-in ! 1 (sub ! 1 refl (whole !)))) (
             -- the run is lent to start_in
             (λ k. assigns ! (addr ! (from ! (stop !))) (from ! (stop !)) (init ! 4 refl (tt, tt)) $
-                lent-call (CalledAs start) W fm known-start l₃ (x .run) (x .piece .task) (task-fits (x .piece) (x .piece-is)) (x .run-is) (λ α δ. and-then ! (load ! (from ! (stop !)) (look ! 5 refl)) (and-then ! (load ! (from ! (fld ! refl (stop !))) (look-in ! 2 (sub ! 2 refl (whole !)))) (no-more !)))
+                lent-call start W fm known-start l₃ (x .run) (x .piece .task) (task-fits (x .piece) (x .piece-is)) (x .run-is) (λ α δ. and-then ! (load ! (from ! (stop !)) (look ! 5 refl)) (and-then ! (load ! (from ! (fld ! refl (stop !))) (look-in ! 2 (sub ! 2 refl (whole !)))) (no-more !)))
                 (λ v a h′ ok isa isr. land ! (from ! (stop !)) (init ! 3 refl (EL.lawful E.the-type E′.the-laws 𝓤 H A W tt .typed a _ isa .0)) $
                 noted-call W fm known-noted (x .piece) a v (x .piece-is) isa (and-then ! (load ! (from ! (stop !)) (look ! 2 refl)) (and-then ! (load ! (from ! (stop !)) (look ! 4 refl)) (no-more !))) (λ u p′ n isp.
                 land-last ! (from ! (stop !)) (store ! 1 refl (SL.lawful P.the-type P′.the-laws 𝓤 H A W .typed p′ _ isp .0)) $ rewrite ! 1 (λ (w : Val). ‵ (fat fullShare P′.mir l₄ 0 w)) (ap only (spelled p′ u isp)) refl $
@@ -210,7 +208,7 @@ module _ {M : Type 1} (𝓤 : URA M) (H : Heap 𝓤) (A : Atoms 𝓤) (W : Given
             (
               -- to step_in
               (λ k. assigns ! (addr ! (from ! (stop !))) (from ! (stop !)) (init ! 6 refl (tt, tt)) $
-                  lent-call (CalledAs step) W fm known-step l₃ (x .run) (x .piece .task) (task-fits (x .piece) (x .piece-is)) (x .run-is) (λ α δ. and-then ! (load ! (from ! (stop !)) (look ! 7 refl)) (and-then ! (load ! (from ! (fld ! refl (stop !))) (look-in ! 2 (sub ! 2 refl (whole !)))) (no-more !)))
+                  lent-call step W fm known-step l₃ (x .run) (x .piece .task) (task-fits (x .piece) (x .piece-is)) (x .run-is) (λ α δ. and-then ! (load ! (from ! (stop !)) (look ! 7 refl)) (and-then ! (load ! (from ! (fld ! refl (stop !))) (look-in ! 2 (sub ! 2 refl (whole !)))) (no-more !)))
                   (λ v a h′ ok isa isr. land ! (from ! (stop !)) (init ! 5 refl (EL.lawful E.the-type E′.the-laws 𝓤 H A W tt .typed a _ isa .0)) $
                   noted-call W fm known-noted (x .piece) a v (x .piece-is) isa (and-then ! (load ! (from ! (stop !)) (look ! 2 refl)) (and-then ! (load ! (from ! (stop !)) (look ! 6 refl)) (no-more !))) (λ u p′ n isp.
                   land-last ! (from ! (stop !)) (store ! 1 refl (SL.lawful P.the-type P′.the-laws 𝓤 H A W .typed p′ _ isp .0)) $ rewrite ! 1 (λ (w : Val). ‵ (fat fullShare P′.mir l₄ 0 w)) (ap only (spelled p′ u isp)) refl $
@@ -218,7 +216,7 @@ module _ {M : Type 1} (𝓤 : URA M) (H : Heap 𝓤) (A : Atoms 𝓤) (W : Given
               (
                 -- to end_in
                 (λ k. assigns ! (addr ! (from ! (stop !))) (from ! (stop !)) (init ! 8 refl (tt, tt)) $
-                    lent-call (CalledAs «end») W fm known-end l₃ (x .run) (x .piece .task) (task-fits (x .piece) (x .piece-is)) (x .run-is) (λ α δ. and-then ! (load ! (from ! (stop !)) (look ! 9 refl)) (and-then ! (load ! (from ! (fld ! refl (stop !))) (look-in ! 2 (sub ! 2 refl (whole !)))) (no-more !)))
+                    lent-call «end» W fm known-end l₃ (x .run) (x .piece .task) (task-fits (x .piece) (x .piece-is)) (x .run-is) (λ α δ. and-then ! (load ! (from ! (stop !)) (look ! 9 refl)) (and-then ! (load ! (from ! (fld ! refl (stop !))) (look-in ! 2 (sub ! 2 refl (whole !)))) (no-more !)))
                     (λ v a h′ ok isa isr. land ! (from ! (stop !)) (init ! 7 refl (EL.lawful E.the-type E′.the-laws 𝓤 H A W tt .typed a _ isa .0)) $
                     noted-call W fm known-noted (x .piece) a v (x .piece-is) isa (and-then ! (load ! (from ! (stop !)) (look ! 2 refl)) (and-then ! (load ! (from ! (stop !)) (look ! 8 refl)) (no-more !))) (λ u p′ n isp.
                     land-last ! (from ! (stop !)) (store ! 1 refl (SL.lawful P.the-type P′.the-laws 𝓤 H A W .typed p′ _ isp .0)) $ rewrite ! 1 (λ (w : Val). ‵ (fat fullShare P′.mir l₄ 0 w)) (ap only (spelled p′ u isp)) refl $
@@ -245,7 +243,7 @@ module _ {M : Type 1} (𝓤 : URA M) (H : Heap 𝓤) (A : Atoms 𝓤) (W : Given
         (record { run = h₀; piece = p₀; inv = begins p₀ h₀; run-is = isr₀; piece-is = isp₀ }))))))))))))))
 
 module _ {M : Type 1} (𝓤 : URA M) (H : Heap 𝓤) (A : Atoms 𝓤) (W : Given 𝓤 H A) (at-mem : Memory → SProp 𝓤) (prog : Routine → Fun 𝓤) (𝓣 : Tables 𝓤 H)
-    (known-start : Triple 𝓤 (𝓣 .C start-def.name) (In (CalledAs start) W)) (known-step : Triple 𝓤 (𝓣 .C step-def.name) (In (CalledAs step) W)) (known-end : Triple 𝓤 (𝓣 .C end-def.name) (In (CalledAs «end») W))
+    (known-start : Triple 𝓤 (𝓣 .C start-def.name) (In start W)) (known-step : Triple 𝓤 (𝓣 .C step-def.name) (In step W)) (known-end : Triple 𝓤 (𝓣 .C end-def.name) (In «end» W))
     (known-noted : Triple 𝓤 (𝓣 .C noted-def.name) (Notes W)) (known-strayed : Triple 𝓤 (𝓣 .C strayed-def.name) (Strays W)) where
   walks : Walks 𝓤 H A lend-each.ended stayed (WpFn 𝓤 H (𝓣 .C) (𝓣 .Λ) function) (lend-each.clauses 𝓤 H A at-mem prog)
   walks = walked 𝓤 H A lend-each.ended stayed (lend-each.clauses 𝓤 H A at-mem prog) (WpFn 𝓤 H (𝓣 .C) (𝓣 .Λ) function)
@@ -263,8 +261,8 @@ lend-each-spec 𝓤 H 𝓜 𝓖 𝓡 =
     entered 𝓤 H (tripleOf 𝓤 H (𝓖 .A) lend-each.signature (lend-each.spec 𝓤 H (𝓖 .A) (𝓜 .mem) (𝓡 .run)))
     (tables 𝓤 H 𝓜 𝓡 code.env .C) (tables 𝓤 H 𝓜 𝓡 code.env .Λ) #lent·lend-each code.function (code.unfolded 𝓤 H 𝓜 𝓡)
     (meets 𝓤 H (𝓖 .A) W (𝓜 .mem) (𝓡 .run) (tablesOf 𝓤 H 𝓜 (tables 𝓤 H 𝓜 𝓡 code.env))
-    (cited 𝓤 H (In (CalledAs start) W) 𝓜 𝓡 code.env start-def.name start-def.routine code.calls-lent·start-in (start-thm.met 𝓤 H 𝓜 𝓖 𝓡))
-    (cited 𝓤 H (In (CalledAs step) W) 𝓜 𝓡 code.env step-def.name step-def.routine code.calls-lent·step-in (step-thm.met 𝓤 H 𝓜 𝓖 𝓡))
-    (cited 𝓤 H (In (CalledAs «end») W) 𝓜 𝓡 code.env end-def.name end-def.routine code.calls-lent·end-in (end-thm.met 𝓤 H 𝓜 𝓖 𝓡))
+    (cited 𝓤 H (In start W) 𝓜 𝓡 code.env start-def.name start-def.routine code.calls-lent·start-in (start-thm.met 𝓤 H 𝓜 𝓖 𝓡))
+    (cited 𝓤 H (In step W) 𝓜 𝓡 code.env step-def.name step-def.routine code.calls-lent·step-in (step-thm.met 𝓤 H 𝓜 𝓖 𝓡))
+    (cited 𝓤 H (In «end» W) 𝓜 𝓡 code.env end-def.name end-def.routine code.calls-lent·end-in (end-thm.met 𝓤 H 𝓜 𝓖 𝓡))
     (cited 𝓤 H (Notes W) 𝓜 𝓡 code.env noted-def.name noted-def.routine code.calls-lent·pieces·noted (noted-thm.met 𝓤 H 𝓜 𝓖 𝓡))
     (cited 𝓤 H (Strays W) 𝓜 𝓡 code.env strayed-def.name strayed-def.routine code.calls-lent·pieces·strayed (strayed-thm.met 𝓤 H 𝓜 𝓖 𝓡)))

@@ -1,7 +1,7 @@
 -- The call at hand is read off a piece, and its number is noted. Assumes nothing.
 use Prim.Native.Nat.{ℕ, zero, suc, _+_, _*_, _-_, _≤_, _<_}
 use mathlib.Core.Path.{_≡_, refl, sym, ap, subst, _∙_}
-use mathlib.Core.List.{List, [], _∷_, _++_}
+use mathlib.Core.List.{List, [], _∷_}
 use mathlib.Core.Bool.{Bool, true, false}
 use mathlib.Core.Logic.{_⊎_, inl, inr}
 use native.Mathlib.Omega.{arith}
@@ -10,7 +10,7 @@ use lib.ListN.{length, take, drop, getD, set}
 use lib.Seq.{drop-cons, take-suc-set, getD-take, take-all}
 use native.Mathlib.Nat.{eq-or-lt-of-le}
 use Rattle.lent.specs.declared.Piece.{Piece}
-use Rattle.lent.specs.Pieces.{rest-at, rest, said, Facing, Ready, turns-left, turns, FacedAs, NotedAs, PieceOf}
+use Rattle.lent.specs.Pieces.{rest-at, rest, said, Facing, turns-left, turns, FacedAs, NotedAs, PieceOf}
 
 drop-past : (n : ℕ) (l : List ℕ) → length l ≤ n → drop n l ≡ []
 drop-past zero [] h = refl

@@ -4,20 +4,13 @@ use Rattle.lent.proofs.LendLaws.{whole}
 use borrow.Author.Needs.{needs}
 use Rattle.lent.proofs.lend.Statement.{statement}
 use Rattle.lent.proofs.lend.Tie as tie
-use Rattle.lent.proofs.lend.Reads as reads
-use Rattle.lent.proofs.lend.Lts as lts
-use Rattle.lent.proofs.lend_each.Reads as lend-each-reads
-use Rattle.lent.proofs.pieces.piece_of.Reads as piece-of-reads
 
--- src/lib.rt:84:9
 piece-of-requires : tie.Need-piece-of-requires
 piece-of-requires c κs = search needs
 
--- src/lib.rt:85:5
 lend-each-requires : tie.Need-lend-each-requires
 lend-each-requires c κs = search needs
 
--- src/lib.rt:81:1
 returns : tie.Need-returns
 returns c =
     let a = c .before .before .before .args in

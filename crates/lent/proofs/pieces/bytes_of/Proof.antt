@@ -8,8 +8,6 @@ use Rattle.runtime.proofs.StateLaws.{filled}
 use borrow.Author.Needs.{needs}
 use Rattle.lent.proofs.pieces.bytes_of.Statement.{statement}
 use Rattle.lent.proofs.pieces.bytes_of.Tie as tie
-use Rattle.lent.proofs.pieces.bytes_of.Reads as reads
-use Rattle.lent.proofs.pieces.bytes_of.Lts as lts
 
 abbrev Inv-loop : tie.InvT-loop
 Inv-loop input count bytes₀ i₀ bytes i = (i ≤ count) × (length bytes ≡ 512) × (take i bytes ≡ take i input)
@@ -17,31 +15,24 @@ Inv-loop input count bytes₀ i₀ bytes i = (i ≤ count) × (length bytes ≡ 
 abbrev μ-loop : tie.MeasureT-loop
 μ-loop input count bytes₀ i₀ bytes i = count - i
 
--- src/pieces.rt:97:5
 loop-holds : tie.Need-loop-holds Inv-loop μ-loop
 loop-holds c = search needs
 
--- src/pieces.rt:98:20
 shared-slice-read-bytes : tie.Need-shared-slice-read-bytes Inv-loop μ-loop
 shared-slice-read-bytes c = search needs
 
--- src/pieces.rt:98:9
 array-write-bytes : tie.Need-array-write-bytes Inv-loop μ-loop
 array-write-bytes c = search needs
 
--- src/pieces.rt:99:9
 add-i : tie.Need-add-i Inv-loop μ-loop
 add-i c = search needs
 
--- src/pieces.rt:97:5
 loop-less : tie.Need-loop-less Inv-loop μ-loop
 loop-less c = search needs
 
--- src/pieces.rt:97:5
 loop-again : tie.Need-loop-again Inv-loop μ-loop
 loop-again c = (search needs, simp length-set (omega arith), filled (now (c .before .before .before .args .input)) (c .before .before .loop .bytes) (c .before .before .loop .i) (omega arith) (omega arith) (c .before .before .loop .inv .2))
 
--- src/pieces.rt:91:1
 returns : tie.Need-returns Inv-loop μ-loop
 returns c =
     let a = c .before .before .args in

@@ -4,46 +4,34 @@ use Rattle.lent.proofs.PieceLaws.{none-far, none-more, half-left, whole
 use borrow.Author.Needs.{needs}
 use Rattle.lent.proofs.pieces.faced.Statement.{statement}
 use Rattle.lent.proofs.pieces.faced.Tie as tie
-use Rattle.lent.proofs.pieces.faced.Reads as reads
-use Rattle.lent.proofs.pieces.faced.Lts as lts
 
--- src/pieces.rt:45:9
 returns : tie.Need-returns
 returns c = let a = c .before .args in none-far (a .t1) (a .turn) (a .t1 .kind) (a .t1 .task) (search needs) (omega arith)
 
--- src/pieces.rt:47:14
 mul-at : tie.Need-mul-at
 mul-at c = search needs
 
--- src/pieces.rt:50:9
 returns-2 : tie.Need-returns-2
 returns-2 c = let a = c .before .before .args in none-more (a .t1) (a .turn) (a .t1 .kind) (a .t1 .task) (omega arith)
 
--- src/pieces.rt:55:18
 add-if3 : tie.Need-add-if3
 add-if3 c = search needs
 
--- src/pieces.rt:56:9
 returns-3 : tie.Need-returns-3
 returns-3 c = let a = c .before .before .before .args in half-left (a .t1) (a .turn) (search needs) (omega arith) (omega arith)
 
--- src/pieces.rt:58:17
 element-copy-out-next : tie.Need-element-copy-out-next
 element-copy-out-next c = search needs
 
--- src/pieces.rt:59:29
 add-next : tie.Need-add-next
 add-next c = search needs
 
--- src/pieces.rt:59:17
 element-copy-out-next-2 : tie.Need-element-copy-out-next-2
 element-copy-out-next-2 c = search needs
 
--- src/pieces.rt:59:17
 cast-next : tie.Need-cast-next
 cast-next c = search needs
 
--- src/pieces.rt:38:1
 returns-4 : tie.Need-returns-4
 returns-4 c = let a = c .before .before .before .before .before .args in whole-left (a .t1) (a .turn) (search needs) (omega arith) (omega arith)
 

@@ -5,31 +5,22 @@ use Rattle.lent.proofs.PieceLaws.{noted-full, noted-next}
 use borrow.Author.Needs.{needs}
 use Rattle.lent.proofs.pieces.numbered.Statement.{statement}
 use Rattle.lent.proofs.pieces.numbered.Tie as tie
-use Rattle.lent.proofs.pieces.numbered.Reads as reads
-use Rattle.lent.proofs.pieces.numbered.Lts as lts
-use Rattle.lent.proofs.pieces.faced.Reads as faced-reads
 
--- src/pieces.rt:69:9
 faced-requires : tie.Need-faced-requires
 faced-requires c κs = search needs
 
--- src/pieces.rt:69:9
 returns : tie.Need-returns
 returns c = let a = c .before .before .args in noted-full (a .number) (a .piece) (c .faced .result) (omega arith) (c .faced .ensures)
 
--- src/pieces.rt:72:5
 element-write-next : tie.Need-element-write-next
 element-write-next c = search needs
 
--- src/pieces.rt:73:17
 add-faced : tie.Need-add-faced
 add-faced c = search needs
 
--- src/pieces.rt:73:5
 faced-requires-2 : tie.Need-faced-requires-2
 faced-requires-2 c κs = search needs
 
--- src/pieces.rt:64:1
 returns-2 : tie.Need-returns-2
 returns-2 c = let a = c .before .before .args in noted-next (a .number) (a .piece) _ (c .faced2 .result) (search needs) refl refl refl (c .faced2 .ensures)
 

@@ -1,0 +1,5 @@
+pub mod CallWalk
+pub mod LendLaws
+pub mod LendWalk
+pub mod LineCases
+pub mod PieceLaws

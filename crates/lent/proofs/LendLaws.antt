@@ -22,7 +22,8 @@ use Rattle.lent.specs.declared.Lent.{Lent}
 use Rattle.lent.specs.Handed.{CalledIn}
 use Rattle.lent.specs.Lines.{calls-in, line, lines}
 use Rattle.lent.specs.Pieces.{rest, said, Facing, Ready, NotedAs, PieceOf, LentAs, LentOf}
-use Rattle.runtime.proofs.ReplayLaws.{no-calls, calls-append, kind-start, kind-step, kind-end, other-kind, kind-none}
+use Rattle.runtime.proofs.CallLaws.{one-call}
+use Rattle.runtime.proofs.MadeLaws.{no-calls, calls-append, kind-start, kind-step, kind-end, other-kind, kind-none}
 use Rattle.lent.proofs.PieceLaws.{false-true}
 
 twice : (t : ℕ) → 2 * t + 2 ≡ 2 * suc t
@@ -127,17 +128,17 @@ module _ (p₀ : Piece) (from h : Run) (p : Piece) (inv : Inv p₀ from h p) whe
     pub by-start : p .kind ≡ 0 → (a : Answer) (h′ : Run) (p′ : Piece) → CalledIn start h (p .task) a h′ → NotedAs (answer-number a) p p′ → Inv p₀ from h′ p′
     unfolding line
     by-start k a h′ p′ c n =
-        turned (answer-number a) h′ p′ (kind-start h (p .kind) (p .task) k (record { answer = a; run = h′ }) c) (λ s. c .answer s ∙ ap (λ j. line (context-of h) (model h) j (p .task)) (sym k)) n
+        turned (answer-number a) h′ p′ (kind-start h (p .kind) (p .task) k h′ (one-call start h (p .task) (record { answer = a; run = h′ }) c)) (λ s. c .answer s ∙ ap (λ j. line (context-of h) (model h) j (p .task)) (sym k)) n
 
     pub by-step : p .kind ≡ 1 → (a : Answer) (h′ : Run) (p′ : Piece) → CalledIn step h (p .task) a h′ → NotedAs (answer-number a) p p′ → Inv p₀ from h′ p′
     unfolding line
     by-step k a h′ p′ c n =
-        turned (answer-number a) h′ p′ (kind-step h (p .kind) (p .task) k (record { answer = a; run = h′ }) c) (λ s. c .answer s ∙ ap (λ j. line (context-of h) (model h) j (p .task)) (sym k)) n
+        turned (answer-number a) h′ p′ (kind-step h (p .kind) (p .task) k h′ (one-call step h (p .task) (record { answer = a; run = h′ }) c)) (λ s. c .answer s ∙ ap (λ j. line (context-of h) (model h) j (p .task)) (sym k)) n
 
     pub by-end : p .kind ≡ 2 → (a : Answer) (h′ : Run) (p′ : Piece) → CalledIn «end» h (p .task) a h′ → NotedAs (answer-number a) p p′ → Inv p₀ from h′ p′
     unfolding line
     by-end k a h′ p′ c n =
-        turned (answer-number a) h′ p′ (kind-end h (p .kind) (p .task) k (record { answer = a; run = h′ }) c) (λ s. c .answer s ∙ ap (λ j. line (context-of h) (model h) j (p .task)) (sym k)) n
+        turned (answer-number a) h′ p′ (kind-end h (p .kind) (p .task) k h′ (one-call «end» h (p .task) (record { answer = a; run = h′ }) c)) (λ s. c .answer s ∙ ap (λ j. line (context-of h) (model h) j (p .task)) (sym k)) n
 
     pub by-none : (p .kind ≡ 0 → ⊥) → (p .kind ≡ 1 → ⊥) → (p .kind ≡ 2 → ⊥) → (p′ : Piece) → NotedAs 18 p p′ → Inv p₀ from h p′
     by-none q s u p′ n =

@@ -6,3 +6,4 @@ pub mod CallLaws
 pub mod AskLaws
 pub mod StepLaws
 pub mod CarryLaws
+pub mod MadeLaws

@@ -25,59 +25,8 @@ use Rattle.runtime.specs.declared.OpenAnswer.the-variants.{Accepted}
 use Rattle.runtime.specs.View.{model, context-of, SoundRun, blank-run}
 use Rattle.runtime.specs.Calls.{calls-of-kind, call-of, CallsMade}
 use Rattle.runtime.specs.Asked.{open-number, Unopened, OpenedAs}
+use Rattle.runtime.proofs.MadeLaws.{after-append, no-calls, calls-append}
 use Rattle.sequence.specs.Replays.{calls-of, ReplayedAs}
-
-pub after-append :
-    (c : Context) (r : Semantics.Run) (bs ds : List Call) → after-all c r (bs ++ ds) ≡ after-all c (after-all c r bs) ds
-unfolding after-all
-after-append c r [] ds = refl
-after-append c r (b ∷ bs) ds = after-append c (after c r b) bs ds
-
--- none
-pub no-calls : (r : Run) → CallsMade [] r r
-unfolding after-all
-no-calls r = record { list = refl; run = λ s. refl; sound = λ s. s }
-
--- one after the other
-pub calls-append :
-    (bs ds : List Call) (a b d : Run) → CallsMade bs a b → CallsMade ds b d → CallsMade (bs ++ ds) a d
-calls-append bs ds a b d h k =
-    record {
-      list = k .list ∙ h .list;
-      run =
-          λ s.
-          k .run (h .sound s)
-          ∙ ap (λ t. after-all (context (list-of t)) (model b) ds) (h .list)
-          ∙ ap (λ m. after-all (context-of a) m ds) (h .run s)
-          ∙ sym (after-append (context-of a) (model a) bs ds);
-      sound = λ s. k .sound (h .sound s);
-    }
-
--- a call by its kind
-module _ (run : Run) (kind n : ℕ) where
-  pub kind-start : kind ≡ 0 → (next : Run) → CallsMade (call-of start n ∷ []) run next → CallsMade (calls-of-kind kind n) run next
-  unfolding calls-of-kind
-  kind-start q next h = subst (λ k. CallsMade (calls-of-kind k n) run next) (sym q) h
-
-  pub kind-step : kind ≡ 1 → (next : Run) → CallsMade (call-of step n ∷ []) run next → CallsMade (calls-of-kind kind n) run next
-  unfolding calls-of-kind
-  kind-step q next h = subst (λ k. CallsMade (calls-of-kind k n) run next) (sym q) h
-
-  pub kind-end : kind ≡ 2 → (next : Run) → CallsMade (call-of «end» n ∷ []) run next → CallsMade (calls-of-kind kind n) run next
-  unfolding calls-of-kind
-  kind-end q next h = subst (λ k. CallsMade (calls-of-kind k n) run next) (sym q) h
-
-pub other-kind :
-    (kind n : ℕ) → (kind ≡ 0 → ⊥) → (kind ≡ 1 → ⊥) → (kind ≡ 2 → ⊥) → calls-of-kind kind n ≡ []
-unfolding calls-of-kind
-other-kind zero n p q s = absurd (p refl)
-other-kind (suc zero) n p q s = absurd (q refl)
-other-kind (suc (suc zero)) n p q s = absurd (s refl)
-other-kind (suc (suc (suc k))) n p q s = refl
-
-pub kind-none :
-    (run : Run) (kind n : ℕ) → (kind ≡ 0 → ⊥) → (kind ≡ 1 → ⊥) → (kind ≡ 2 → ⊥) → CallsMade (calls-of-kind kind n) run run
-kind-none run kind n p q s = subst (λ bs. CallsMade bs run run) (sym (other-kind kind n p q s)) (no-calls run)
 
 drop-all : (l : List ℕ) (k : ℕ) → length l ≤ k → drop k l ≡ []
 drop-all [] zero q = refl

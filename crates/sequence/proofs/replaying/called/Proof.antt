@@ -1,6 +1,6 @@
 use Rattle.semantics.specs.Plan.{start, step, «end»}
 use Rattle.runtime.proofs.CallLaws.{one-call}
-use Rattle.sequence.proofs.ReplayLaws.{kind-start, kind-step, kind-end, kind-none}
+use Rattle.runtime.proofs.MadeLaws.{kind-start, kind-step, kind-end, kind-none}
 use borrow.Author.Needs.{needs}
 use Rattle.sequence.proofs.replaying.called.Statement.{statement}
 use Rattle.sequence.proofs.replaying.called.Tie as tie

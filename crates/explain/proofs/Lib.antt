@@ -1,0 +1,3 @@
+-- Laws of the definitions, for this crate's proofs.
+pub mod FirstLaws
+pub mod JobLaws

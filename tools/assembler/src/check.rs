@@ -7,15 +7,28 @@ pub fn check(said: &Text) -> Vec<Problem> {
     too_many(&said.footprints, "footprint", 32, &mut problems);
     too_many(&said.sheets, "sheet", 32, &mut problems);
     for footprint in &said.footprints {
-        crowded(footprint, "a footprint has at most 8 lines", 8, &mut problems);
+        crowded(
+            footprint,
+            "a footprint has at most 8 lines",
+            8,
+            &mut problems,
+        );
     }
     for (number, sheet) in said.sheets.iter().enumerate() {
-        crowded(sheet, "a sheet has at most 32 instructions", 32, &mut problems);
+        crowded(
+            sheet,
+            "a sheet has at most 32 instructions",
+            32,
+            &mut problems,
+        );
         check_sheet(said, number, sheet, &mut problems);
     }
     if said.sheets.is_empty() {
         let line = said.last_line.max(1);
-        problems.push(Problem { line, message: "a list has 1 to 32 sheets, this text has none".to_string() });
+        problems.push(Problem {
+            line,
+            message: "a list has 1 to 32 sheets, this text has none".to_string(),
+        });
     }
     if problems.is_empty() {
         problems.extend(too_many_jobs(said));
@@ -26,13 +39,19 @@ pub fn check(said: &Text) -> Vec<Problem> {
 fn too_many<T>(parts: &[Part<T>], what: &str, most: usize, problems: &mut Vec<Problem>) {
     if let Some(part) = parts.get(most) {
         let message = format!("a list has at most {most} {what}s");
-        problems.push(Problem { line: part.line, message });
+        problems.push(Problem {
+            line: part.line,
+            message,
+        });
     }
 }
 
 fn crowded<T>(part: &Part<T>, message: &str, most: usize, problems: &mut Vec<Problem>) {
     if let Some((line, _)) = part.items.get(most) {
-        problems.push(Problem { line: *line, message: message.to_string() });
+        problems.push(Problem {
+            line: *line,
+            message: message.to_string(),
+        });
     }
 }
 
@@ -43,10 +62,15 @@ fn check_sheet(said: &Text, number: usize, sheet: &Part<Instruction>, problems: 
     for (place, (line, instruction)) in sheet.items.iter().enumerate() {
         let message = match instruction {
             Some([SKIP, _, length, _]) => skip_problem(place, *length as usize, count),
-            Some([SPAWN, child, footprint, _]) => spawn_problem(said, number, *child as usize, *footprint as usize),
+            Some([SPAWN, child, footprint, _]) => {
+                spawn_problem(said, number, *child as usize, *footprint as usize)
+            }
             _ => None,
         };
-        problems.extend(message.map(|message| Problem { line: *line, message }));
+        problems.extend(message.map(|message| Problem {
+            line: *line,
+            message,
+        }));
     }
 }
 
@@ -60,10 +84,14 @@ fn spawn_problem(said: &Text, own: usize, child: usize, footprint: usize) -> Opt
         return Some(format!("sheet {child}: this text has no such sheet"));
     }
     if child <= own {
-        return Some(format!("sheet {child}: a spawn in sheet {own} names a higher sheet"));
+        return Some(format!(
+            "sheet {child}: a spawn in sheet {own} names a higher sheet"
+        ));
     }
     if footprint >= said.footprints.len() {
-        return Some(format!("footprint {footprint}: this text has no such footprint"));
+        return Some(format!(
+            "footprint {footprint}: this text has no such footprint"
+        ));
     }
     None
 }
@@ -83,7 +111,14 @@ fn too_many_jobs(said: &Text) -> Option<Problem> {
     let first = said.sheets.first()?;
     let most = *counts.first()?;
     (most > 128).then(|| {
-        let how_many = if most > 1_000_000 { "more than a million".to_string() } else { most.to_string() };
-        Problem { line: first.line, message: format!("the list can make {how_many} jobs, and at most 128 are allowed") }
+        let how_many = if most > 1_000_000 {
+            "more than a million".to_string()
+        } else {
+            most.to_string()
+        };
+        Problem {
+            line: first.line,
+            message: format!("the list can make {how_many} jobs, and at most 128 are allowed"),
+        }
     })
 }

@@ -17,7 +17,10 @@ pub fn parse(text: &str) -> (Text, Vec<Problem>) {
             continue;
         }
         if let Err(message) = take_line(&mut said, &mut head_seen, number, &words) {
-            problems.push(Problem { line: number, message });
+            problems.push(Problem {
+                line: number,
+                message,
+            });
         }
     }
     if !head_seen {
@@ -28,7 +31,12 @@ pub fn parse(text: &str) -> (Text, Vec<Problem>) {
     (said, problems)
 }
 
-fn take_line(said: &mut Text, head_seen: &mut bool, line: usize, words: &[String]) -> Result<(), String> {
+fn take_line(
+    said: &mut Text,
+    head_seen: &mut bool,
+    line: usize,
+    words: &[String],
+) -> Result<(), String> {
     let mut left = Words::new(words);
     match left.peek(0) {
         "entries" => {
@@ -47,7 +55,10 @@ fn take_line(said: &mut Text, head_seen: &mut bool, line: usize, words: &[String
         }
         "footprint" => take_footprint(said, line, &mut left),
         "sheet" => {
-            said.sheets.push(Part { line, items: Vec::new() });
+            said.sheets.push(Part {
+                line,
+                items: Vec::new(),
+            });
             left.next();
             let most = said.sheets.len() as u64 - 1;
             take_heading(&mut left, "sheet", most)?;
@@ -69,7 +80,10 @@ fn take_heading(left: &mut Words, what: &str, next: u64) -> Result<(), String> {
 fn take_footprint(said: &mut Text, line: usize, left: &mut Words) -> Result<(), String> {
     let late = !said.sheets.is_empty();
     let entries = said.entries.unwrap_or(64);
-    said.footprints.push(Part { line, items: Vec::new() });
+    said.footprints.push(Part {
+        line,
+        items: Vec::new(),
+    });
     left.next();
     let next = said.footprints.len() as u64 - 1;
     take_heading(left, "footprint", next)?;
@@ -103,7 +117,10 @@ fn take_access(left: &mut Words, entries: u8) -> Result<Access, String> {
     left.expect("entry")?;
     if left.peek(0).starts_with('R') {
         let value = left.register()?;
-        return Ok(Access { kind: kind + 2, value });
+        return Ok(Access {
+            kind: kind + 2,
+            value,
+        });
     }
     let value = left.number("entry", 0, entries as u64 - 1)? as u8;
     Ok(Access { kind, value })
@@ -113,14 +130,18 @@ fn take_access(left: &mut Words, entries: u8) -> Result<Access, String> {
 fn take_placed(said: &mut Text, line: usize, left: &mut Words) -> Result<(), String> {
     let Some(sheet) = said.sheets.last_mut() else {
         let word = left.peek(0);
-        return Err(format!("`{word}` is no line of this form: an instruction stands in a sheet"));
+        return Err(format!(
+            "`{word}` is no line of this form: an instruction stands in a sheet"
+        ));
     };
     let place = sheet.items.len();
     sheet.items.push((line, None));
     if left.peek(1) == ":" {
         let number = left.number("place", 0, 31)?;
         if number as usize != place {
-            return Err(format!("place {number}: the next place of this sheet is {place}"));
+            return Err(format!(
+                "place {number}: the next place of this sheet is {place}"
+            ));
         }
         left.next();
     }

@@ -6,7 +6,10 @@ use assembler::assemble;
 fn problems(text: &str) -> Vec<String> {
     match assemble(text) {
         Ok(bytes) => vec![format!("accepted, {} bytes", bytes.len())],
-        Err(problems) => problems.iter().map(|p| format!("{}: {}", p.line, p.message)).collect(),
+        Err(problems) => problems
+            .iter()
+            .map(|p| format!("{}: {}", p.line, p.message))
+            .collect(),
     }
 }
 
@@ -34,7 +37,10 @@ fn every_instruction() {
     assert_eq!(bytes_of("store entry R1 := R2"), [5, 1, 2, 0]);
     assert_eq!(bytes_of("skip 0 if R3 = 0"), [6, 3, 0, 0]);
     assert_eq!(bytes_of("spawn sheet 2 with footprint 1"), [7, 2, 1, 0]);
-    assert_eq!(bytes_of("0: wait entry R3  # behind a comment"), [8, 3, 0, 0]);
+    assert_eq!(
+        bytes_of("0: wait entry R3  # behind a comment"),
+        [8, 3, 0, 0]
+    );
 }
 
 #[test]
@@ -46,76 +52,183 @@ fn every_kind_of_line() {
 
 #[test]
 fn registers() {
-    assert_eq!(of_line("add R1 := R5 + R0"), ["5: register R5: registers are R0 to R3"]);
-    assert_eq!(of_line("add R1 := 5 + R0"), ["5: register 5: registers are R0 to R3"]);
-    assert_eq!(of_line("wait entry"), ["5: the line ends where a register is wanted"]);
+    assert_eq!(
+        of_line("add R1 := R5 + R0"),
+        ["5: register R5: registers are R0 to R3"]
+    );
+    assert_eq!(
+        of_line("add R1 := 5 + R0"),
+        ["5: register 5: registers are R0 to R3"]
+    );
+    assert_eq!(
+        of_line("wait entry"),
+        ["5: the line ends where a register is wanted"]
+    );
 }
 
 #[test]
 fn numbers() {
     assert_eq!(of_line("const R1 := 65535"), ["accepted, 26 bytes"]);
-    assert_eq!(of_line("const R1 := 65536"), ["5: constant 65536: it is 0 to 65535"]);
-    assert_eq!(of_line("const R1 := -1"), ["5: `-` stands where a number is wanted: constant"]);
-    assert_eq!(of_line("const R1 := 99999999999999999999"), ["5: constant 99999999999999999999: it is 0 to 65535"]);
+    assert_eq!(
+        of_line("const R1 := 65536"),
+        ["5: constant 65536: it is 0 to 65535"]
+    );
+    assert_eq!(
+        of_line("const R1 := -1"),
+        ["5: `-` stands where a number is wanted: constant"]
+    );
+    assert_eq!(
+        of_line("const R1 := 99999999999999999999"),
+        ["5: constant 99999999999999999999: it is 0 to 65535"]
+    );
 }
 
 #[test]
 fn words() {
     assert_eq!(of_line("jump 3"), ["5: `jump` is no instruction"]);
-    assert_eq!(of_line("add R1 := R2 - R3"), ["5: `-` stands where `+` is wanted"]);
-    assert_eq!(of_line("const R1 9"), ["5: `9` stands where `:=` is wanted"]);
-    assert_eq!(of_line("const R1 := 9 10"), ["5: `10` stands where the line ends"]);
-    assert_eq!(of_line("skip 1 if R0"), ["5: the line ends where `=` is wanted"]);
+    assert_eq!(
+        of_line("add R1 := R2 - R3"),
+        ["5: `-` stands where `+` is wanted"]
+    );
+    assert_eq!(
+        of_line("const R1 9"),
+        ["5: `9` stands where `:=` is wanted"]
+    );
+    assert_eq!(
+        of_line("const R1 := 9 10"),
+        ["5: `10` stands where the line ends"]
+    );
+    assert_eq!(
+        of_line("skip 1 if R0"),
+        ["5: the line ends where `=` is wanted"]
+    );
 }
 
 #[test]
 fn places_and_skips() {
-    assert_eq!(of_line("1: const R1 := 9"), ["5: place 1: the next place of this sheet is 0"]);
-    assert_eq!(of_line("skip 1 if R0 = 0"), ["5: skip 1: from place 0 it ends at 2, and the sheet has 1 instructions"]);
+    assert_eq!(
+        of_line("1: const R1 := 9"),
+        ["5: place 1: the next place of this sheet is 0"]
+    );
+    assert_eq!(
+        of_line("skip 1 if R0 = 0"),
+        ["5: skip 1: from place 0 it ends at 2, and the sheet has 1 instructions"]
+    );
 }
 
 #[test]
 fn spawns() {
-    assert_eq!(of_line("spawn sheet 3 with footprint 0"), ["5: sheet 3: this text has no such sheet"]);
-    assert_eq!(of_line("spawn sheet 0 with footprint 0"), ["5: sheet 0: a spawn in sheet 0 names a higher sheet"]);
-    assert_eq!(of_line("spawn sheet 1 with footprint 2"), ["5: footprint 2: this text has no such footprint"]);
+    assert_eq!(
+        of_line("spawn sheet 3 with footprint 0"),
+        ["5: sheet 3: this text has no such sheet"]
+    );
+    assert_eq!(
+        of_line("spawn sheet 0 with footprint 0"),
+        ["5: sheet 0: a spawn in sheet 0 names a higher sheet"]
+    );
+    assert_eq!(
+        of_line("spawn sheet 1 with footprint 2"),
+        ["5: footprint 2: this text has no such footprint"]
+    );
 }
 
 #[test]
 fn footprints() {
     let footprint = |line: &str| problems(&format!("entries 2\nfootprint 0: {line}\nsheet 0:\n"));
     assert_eq!(footprint("read entry 2"), ["2: entry 2: it is 0 to 1"]);
-    assert_eq!(footprint("write entry R4"), ["2: register R4: registers are R0 to R3"]);
-    assert_eq!(footprint("take entry 0"), ["2: `take` stands where `read` or `write` is wanted"]);
-    assert_eq!(footprint(""), ["2: the line ends where `read`, `write` or `none` is wanted"]);
-    assert_eq!(footprint("read entry 0 write entry 1"), ["2: `write` stands where `,` is wanted"]);
-    assert_eq!(footprint(&["read entry 0"; 8].join(", ")), ["accepted, 27 bytes"]);
-    assert_eq!(footprint(&["read entry 0"; 9].join(", ")), ["2: a footprint has at most 8 lines"]);
+    assert_eq!(
+        footprint("write entry R4"),
+        ["2: register R4: registers are R0 to R3"]
+    );
+    assert_eq!(
+        footprint("take entry 0"),
+        ["2: `take` stands where `read` or `write` is wanted"]
+    );
+    assert_eq!(
+        footprint(""),
+        ["2: the line ends where `read`, `write` or `none` is wanted"]
+    );
+    assert_eq!(
+        footprint("read entry 0 write entry 1"),
+        ["2: `write` stands where `,` is wanted"]
+    );
+    assert_eq!(
+        footprint(&["read entry 0"; 8].join(", ")),
+        ["accepted, 27 bytes"]
+    );
+    assert_eq!(
+        footprint(&["read entry 0"; 9].join(", ")),
+        ["2: a footprint has at most 8 lines"]
+    );
 }
 
 #[test]
 fn the_whole_text() {
-    assert_eq!(problems(""), ["1: a list has 1 to 32 sheets, this text has none", "1: no line `entries C` stands in this text"]);
-    assert_eq!(problems("entries 0\nsheet 0:\n"), ["1: entries 0: it is 1 to 64"]);
-    assert_eq!(problems("entries 65\nsheet 0:\n"), ["1: entries 65: it is 1 to 64"]);
+    assert_eq!(
+        problems(""),
+        [
+            "1: a list has 1 to 32 sheets, this text has none",
+            "1: no line `entries C` stands in this text"
+        ]
+    );
+    assert_eq!(
+        problems("entries 0\nsheet 0:\n"),
+        ["1: entries 0: it is 1 to 64"]
+    );
+    assert_eq!(
+        problems("entries 65\nsheet 0:\n"),
+        ["1: entries 65: it is 1 to 64"]
+    );
     assert_eq!(problems("entries 64\nsheet 0:\n"), ["accepted, 8 bytes"]);
-    assert_eq!(problems("entries 1\nentries 1\nsheet 0:\n"), ["2: a second line `entries`"]);
-    assert_eq!(problems("sheet 0:\nentries 1\n"), ["2: `entries` stands ahead of all footprints and sheets"]);
-    assert_eq!(problems("entries 1\nsheet 1:\n"), ["2: sheet 1: the next sheet is 0"]);
-    assert_eq!(problems("entries 1\nsheet 0:\nfootprint 0: none\n"), ["3: a footprint stands ahead of all sheets"]);
-    assert_eq!(problems("entries 1\nwait entry R0\nsheet 0:\n"), ["2: `wait` is no line of this form: an instruction stands in a sheet"]);
-    assert_eq!(problems("refused 1: the file ends\nentries 1\nsheet 0:\n"), ["1: `refused` is no line of this form: an instruction stands in a sheet"]);
+    assert_eq!(
+        problems("entries 1\nentries 1\nsheet 0:\n"),
+        ["2: a second line `entries`"]
+    );
+    assert_eq!(
+        problems("sheet 0:\nentries 1\n"),
+        ["2: `entries` stands ahead of all footprints and sheets"]
+    );
+    assert_eq!(
+        problems("entries 1\nsheet 1:\n"),
+        ["2: sheet 1: the next sheet is 0"]
+    );
+    assert_eq!(
+        problems("entries 1\nsheet 0:\nfootprint 0: none\n"),
+        ["3: a footprint stands ahead of all sheets"]
+    );
+    assert_eq!(
+        problems("entries 1\nwait entry R0\nsheet 0:\n"),
+        ["2: `wait` is no line of this form: an instruction stands in a sheet"]
+    );
+    assert_eq!(
+        problems("refused 1: the file ends\nentries 1\nsheet 0:\n"),
+        ["1: `refused` is no line of this form: an instruction stands in a sheet"]
+    );
 }
 
 #[test]
 fn too_many() {
     let sheets = |n: usize| (0..n).map(|s| format!("sheet {s}:\n")).collect::<String>();
-    assert_eq!(problems(&format!("entries 1\n{}", sheets(32))), ["accepted, 101 bytes"]);
-    assert_eq!(problems(&format!("entries 1\n{}", sheets(33))), ["34: a list has at most 32 sheets"]);
-    let footprints = (0..33).map(|f| format!("footprint {f}: none\n")).collect::<String>();
-    assert_eq!(problems(&format!("entries 1\n{footprints}sheet 0:\n")), ["34: a list has at most 32 footprints"]);
+    assert_eq!(
+        problems(&format!("entries 1\n{}", sheets(32))),
+        ["accepted, 101 bytes"]
+    );
+    assert_eq!(
+        problems(&format!("entries 1\n{}", sheets(33))),
+        ["34: a list has at most 32 sheets"]
+    );
+    let footprints = (0..33)
+        .map(|f| format!("footprint {f}: none\n"))
+        .collect::<String>();
+    assert_eq!(
+        problems(&format!("entries 1\n{footprints}sheet 0:\n")),
+        ["34: a list has at most 32 footprints"]
+    );
     let long = "wait entry R0\n".repeat(33);
-    assert_eq!(problems(&format!("entries 1\nsheet 0:\n{long}")), ["35: a sheet has at most 32 instructions"]);
+    assert_eq!(
+        problems(&format!("entries 1\nsheet 0:\n{long}")),
+        ["35: a sheet has at most 32 instructions"]
+    );
 }
 
 /// "Seven sheets, each but the last spawning the next twice: 127 jobs. Sheet 0 also spawning the last once: 128,
@@ -137,7 +250,10 @@ fn jobs() {
     };
     assert_eq!(problems(&list(0)), ["accepted, 77 bytes"]);
     assert_eq!(problems(&list(1)), ["accepted, 81 bytes"]);
-    assert_eq!(problems(&list(2)), ["3: the list can make 129 jobs, and at most 128 are allowed"]);
+    assert_eq!(
+        problems(&list(2)),
+        ["3: the list can make 129 jobs, and at most 128 are allowed"]
+    );
 }
 
 #[test]

@@ -53,7 +53,10 @@ pub fn print_refused(bytes: &[u8], refusal: u8) {
         3 => say_field(bytes, b": a number of the head is out of range"),
         4 => say_field(bytes, b": a bad count or line of a footprint"),
         5 => say_field(bytes, b": a bad count or instruction of a sheet"),
-        6 => say_at(b": bytes are left over, the first is byte ", refused_end(bytes)),
+        6 => say_at(
+            b": bytes are left over, the first is byte ",
+            refused_end(bytes),
+        ),
         _ => say(b": the whole list can make more than 128 jobs"),
     }
     say(b"\n");

@@ -2,57 +2,19 @@
 ghost use Prim.Native.Nat.{_+_, _-_, _<_};
 ghost use mathlib.Core.Path.{_≡_};
 ghost use lib.ListN.{getD};
-ghost use Rattle.tasklist.specs.TaskList.{adds};
 ghost use Rattle.explain.specs.Jobs.{first-job, made, holder, numbered};
 use crate::Job;
 use tasklist::Instruction;
 use tasklist::Tables;
-use tasklist::body_size;
-use tasklist::instruction_at;
-use tasklist::task_count;
+use tasklist::added;
+use listing::body_size;
+use listing::instruction_at;
+use listing::task_count;
 
 fn wide(x: u8) -> usize
     ensures { λ r. ⌜ (r ≡ x) × (r < 256) ⌝ }
 {
     x as usize
-}
-
-// How many numbers an instruction's block has: a spawn's the count of its body.
-fn added(instruction: Instruction, tables: Tables) -> u8
-    ensures { λ r. ⌜ r ≡ adds (λ a. getD (tables .counts) a 1) instruction ⌝ }
-{
-    match instruction {
-        Instruction::Const {
-            target: _,
-            value: _,
-        } => 0,
-        Instruction::Add {
-            target: _,
-            left: _,
-            right: _,
-        } => 0,
-        Instruction::Sub {
-            target: _,
-            left: _,
-            right: _,
-        } => 0,
-        Instruction::Less {
-            target: _,
-            left: _,
-            right: _,
-        } => 0,
-        Instruction::Load {
-            target: _,
-            place: _,
-        } => 0,
-        Instruction::Store {
-            place: _,
-            source: _,
-        } => 0,
-        Instruction::Skip { test: _, length: _ } => 0,
-        Instruction::Spawn { body, footprint: _ } => task_count(tables, body as usize),
-        Instruction::Wait { place: _ } => 0,
-    }
 }
 
 // The task that an instruction at `place` of `job`'s body makes under a number; `job` itself where it is no spawn.
@@ -108,11 +70,12 @@ fn holder_of(tables: Tables, job: Job, k: usize, depth: usize) -> Job
 {
     let body = job.body;
     let size = body_size(tables, body);
+    let counts = tables.counts;
     let mut n = job.number + 1;
     let mut i = 0;
     while i < size {
         let instruction = instruction_at(tables, body, i);
-        let next = n + wide(added(instruction, tables));
+        let next = n + wide(added(instruction, counts));
         if k < next {
             return made_by(job, i, n, depth, instruction);
         }

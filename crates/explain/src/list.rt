@@ -7,12 +7,12 @@ use crate::words::say_instruction;
 use crate::words::say_line;
 use crate::words::say_with;
 use tasklist::Tables;
-use tasklist::body_count;
-use tasklist::body_size;
-use tasklist::footprint_count;
-use tasklist::footprint_size;
-use tasklist::instruction_at;
-use tasklist::line_at;
+use listing::body_count;
+use listing::body_size;
+use listing::footprint_count;
+use listing::footprint_size;
+use listing::instruction_at;
+use listing::line_at;
 
 // A footprint, its lines behind commas.
 fn print_footprint(tables: Tables, f: usize) {

@@ -22,7 +22,7 @@ use Rattle.semantics.specs.Run.{Task, context, fixed-weights, weight-of, task-o
 use Rattle.semantics.specs.Access.{Access, every, allowed}
 use Rattle.semantics.specs.Effect.{Effect, keep, in-state}
 use Rattle.semantics.specs.Plan.{Action, start, «end», at-end, needs-from, plan-start, plan-end, plan}
-use Rattle.semantics.specs.Call.{refuse, accept, hold, admit, settle, among, decide, edited, charged, written, splice, stays, places, changes, apply}
+use Rattle.semantics.specs.Call.{after-all, refuse, accept, hold, admit, settle, among, decide, edited, charged, written, splice, stays, places, changes, apply}
 use Rattle.semantics.specs.Answers.{refusal-number, answer-number, outcome-number, task-from}
 use Rattle.semantics.specs.Sound.{In, Sound}
 use Rattle.semantics.proofs.Order.{splice-same, splice-other}
@@ -38,8 +38,9 @@ use Rattle.tables.specs.declared.Place.the-variants as Places
 use Rattle.tables.proofs.SpliceLaws.{placed, unplaced, without-splice}
 use Rattle.tables.proofs.SearchLaws.{all-allowed}
 use Rattle.runtime.specs.declared.Run.{Run}
+use Rattle.runtime.specs.declared.Called.{Called}
 use Rattle.runtime.specs.View.{tasks-from, model, context-of, SoundRun, blank-record}
-use Rattle.runtime.specs.Calls.{call-of, decided, CalledAs}
+use Rattle.runtime.specs.Calls.{call-of, decided, CalledAs, CallsMade}
 use Rattle.runtime.specs.Parts.{Placed, no-record, record-of, start-effect, end-effect, with-state, heavier, applied, started, EndedAs}
 use Rattle.runtime.specs.Steps.{WholeRun}
 use Rattle.runtime.proofs.ViewLaws.{same-run, tasks-set, task-is}
@@ -190,6 +191,11 @@ module _ (run : Run) (n : ℕ) (below : n < 128) (s : SoundRun run) where
 
       pub end-too-soon : b ≡ false → decided run «end» n ≡ refuse 15
       end-too-soon q = end-unfinished run n below (p .listed) (own-state ∙ going) (sym ends ∙ q)
+
+-- A call's run alone.
+pub one-call : (a : Action) (run : Run) (n : ℕ) (done : Called) → CalledAs a run n done → CallsMade (call-of a n ∷ []) run (done .run)
+unfolding after-all
+one-call a run n done h = record { list = h .list; run = h .run; sound = h .sound }
 
 -- A call that is refused: the very run is handed back.
 pub called-refused :

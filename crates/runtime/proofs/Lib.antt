@@ -6,5 +6,3 @@ pub mod CallLaws
 pub mod AskLaws
 pub mod StepLaws
 pub mod CarryLaws
-pub mod ReplayLaws
-pub mod SequentialLaws

@@ -1,10 +1,11 @@
 -- What start, step and end promise: document 01, "Calls" and "Refused, by operation".
 use Prim.Native.Nat.{ℕ}
 use mathlib.Core.Path.{_≡_}
+use mathlib.Core.List.{List}
 use Rattle.semantics.specs.declared.CallRefusal.{CallRefusal}
 use Rattle.semantics.specs.declared.Answer.the-variants.{Refused}
 use Rattle.semantics.specs.Plan.{Action}
-use Rattle.semantics.specs.Call.{Call, Outcome, decide, after}
+use Rattle.semantics.specs.Call.{Call, Outcome, decide, after, after-all}
 use Rattle.semantics.specs.Answers.{answer-number, outcome-number}
 use Rattle.runtime.specs.declared.Run.{Run}
 use Rattle.runtime.specs.declared.Called.{Called}
@@ -27,3 +28,9 @@ pub record CalledAs (a : Action) (from : Run) (n : ℕ) (r : Called) : Type 0 wh
   -- of every run: the list is kept, and "a refused call leaves it as it was"
   pub list : r .run .tables ≡ from .tables
   pub refused : (k : CallRefusal) → r .answer ≡ Refused k → r .run ≡ from
+
+-- these calls on the run `from`, one after the other, and the run that they leave
+pub record CallsMade (calls : List Call) (from r : Run) : Type 0 where
+  pub list : r .tables ≡ from .tables
+  pub run : SoundRun from → model r ≡ after-all (context-of from) (model from) calls
+  pub sound : SoundRun from → SoundRun r

@@ -4,4 +4,3 @@ pub mod Calls
 pub mod Asked
 pub mod Parts
 pub mod Steps
-pub mod Replays

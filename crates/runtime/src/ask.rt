@@ -134,6 +134,6 @@ impl Run {
         ensures { λ r. ⌜ (written r ≡ write-answer (encode (list-of (self .tables))) (now (out .entry))) × (now (out .exit) ≡ write-places (encode (list-of (self .tables))) (now (out .entry))) ⌝ }
     {
         let list = self.tables;
-        tasklist::write(list, out)
+        listing::write(list, out)
     }
 }

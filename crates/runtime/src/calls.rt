@@ -1,10 +1,11 @@
 // Start and end. Each looks first, which answers something small, and then carries out what it found.
 ghost use Prim.Native.Nat.{_-_, _<_};
 ghost use mathlib.Core.Path.{_≡_};
+ghost use mathlib.Core.List.{[], _∷_};
 ghost use Rattle.semantics.specs.Run.{task-of};
 ghost use Rattle.semantics.specs.Plan.{at-end, start, «end»};
 ghost use Rattle.runtime.specs.View.{model, context-of, SoundRun};
-ghost use Rattle.runtime.specs.Calls.{CalledAs};
+ghost use Rattle.runtime.specs.Calls.{call-of, CalledAs, CallsMade};
 ghost use Rattle.runtime.specs.Parts.{LocatedAs, PlannedAs, start-effect, end-effect, started, EndedAs};
 use crate::Called;
 use crate::Located;
@@ -36,17 +37,19 @@ pub fn place_of(run: Run, task: u32) -> Located
     }
 }
 
-// Whether a task is at the end of its body or after a fault.
+// Whether a task is at the end of its body or after a fault; so is a number above 127.
 pub fn at_end(run: Run, task: usize) -> bool
-    requires { ⌜ task < 128 ⌝ }
-    ensures { λ r. ⌜ (SoundRun run → r ≡ at-end (context-of run) (task-of (model run) task)) ⌝ }
+    ensures { λ r. ⌜ (task < 128 → SoundRun run → r ≡ at-end (context-of run) (task-of (model run) task)) ⌝ }
 {
+    if 127 < task {
+        return true;
+    }
     let own = run.records[task];
     if own.fault != 0 {
         return true;
     }
     let tables = run.tables;
-    let size = tasklist::body_size(tables, own.body as usize);
+    let size = listing::body_size(tables, own.body as usize);
     size <= own.pc as usize
 }
 
@@ -171,6 +174,28 @@ impl Run {
                     run,
                 }
             }
+        }
+    }
+
+    // The run after a start, whatever is answered.
+    pub fn started(self, task: u32) -> Run
+        ensures { λ r. ⌜ CallsMade (call-of start task ∷ []) self r ⌝ }
+    {
+        let plan = start_plan(self, task);
+        match plan {
+            Located::Refused { refusal: _ } => self,
+            Located::At { place: _ } => started(self, task as usize),
+        }
+    }
+
+    // The run after an end, whatever is answered.
+    pub fn ended(self, task: u32) -> Run
+        ensures { λ r. ⌜ CallsMade (call-of «end» task ∷ []) self r ⌝ }
+    {
+        let plan = end_plan(self, task);
+        match plan {
+            Located::Refused { refusal: _ } => self,
+            Located::At { place } => ended(self, task as usize, place),
         }
     }
 }

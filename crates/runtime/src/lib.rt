@@ -100,11 +100,9 @@ mod calls;
 mod carry;
 mod opening;
 mod parts;
-mod replaying;
 mod state;
 mod step;
-mod whole;
 
+pub use calls::at_end;
+pub use calls::place_of;
 pub use opening::open;
-pub use replaying::replay;
-pub use whole::sequential;

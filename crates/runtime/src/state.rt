@@ -3,14 +3,10 @@ ghost use Prim.Native.Nat.{_+_, _-_, _≤_, _<_};
 ghost use mathlib.Core.Path.{_≡_};
 ghost use mathlib.Core.List.{_++_};
 ghost use lib.ListN.{length, take, replicate};
-ghost use Rattle.tasklist.specs.Tables.{blank-tables};
 ghost use Rattle.runtime.specs.View.{blank-record, blank-run};
 ghost use Rattle.runtime.specs.Parts.{applied, InitialOf};
 use crate::Run;
 use semantics::Record;
-use tasklist::Cell;
-use tasklist::Instruction;
-use tasklist::Line;
 use tasklist::Tables;
 
 // The record of a task that was never made.
@@ -51,34 +47,12 @@ pub fn applied(
     next
 }
 
-// The tables of no list.
-fn blank_tables() -> Tables
-    ensures { λ r. ⌜ r ≡ blank-tables ⌝ }
-{
-    let cell = Cell {
-        instruction: Instruction::Const {
-            target: 0,
-            value: 0,
-        },
-    };
-    Tables {
-        locations: 0,
-        footprints: 0,
-        bodies: 0,
-        widths: [0u8; 32],
-        lines: [Line { kind: 0, value: 0 }; 256],
-        sizes: [0u8; 32],
-        cells: [cell; 1024],
-        counts: [1u8; 32],
-    }
-}
-
 // The run that a refused open hands back.
 pub fn blank_run() -> Run
     ensures { λ r. ⌜ r ≡ blank-run ⌝ }
 {
     let zero = blank_record();
-    let tables = blank_tables();
+    let tables = tasklist::blank();
     Run {
         tables,
         memory: [0u32; 64],

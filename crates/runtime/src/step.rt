@@ -1,7 +1,8 @@
 // The step: what comes of it, and what it leaves.
 ghost use mathlib.Core.Path.{_≡_};
+ghost use mathlib.Core.List.{[], _∷_};
 ghost use Rattle.semantics.specs.Plan.{step};
-ghost use Rattle.runtime.specs.Calls.{CalledAs};
+ghost use Rattle.runtime.specs.Calls.{call-of, CalledAs, CallsMade};
 ghost use Rattle.runtime.specs.Steps.{holds-back, SteppingAs};
 use crate::Called;
 use crate::Located;
@@ -61,7 +62,7 @@ pub fn step_plan(run: Run, task: u32) -> Stepping
                 };
             }
             let tables = run.tables;
-            let instruction = tasklist::instruction_at(tables, own.body as usize, own.pc as usize);
+            let instruction = listing::instruction_at(tables, own.body as usize, own.pc as usize);
             let code = code_of(instruction);
             let plan = plan_of(run, n, place, code, instruction);
             if is_held(plan) {
@@ -100,6 +101,21 @@ impl Run {
                     run,
                 }
             }
+        }
+    }
+
+    // The run after a step, whatever is answered.
+    pub fn stepped(self, task: u32) -> Run
+        ensures { λ r. ⌜ CallsMade (call-of step task ∷ []) self r ⌝ }
+    {
+        let stepping = step_plan(self, task);
+        match stepping {
+            Stepping::Refused { refusal: _ } => self,
+            Stepping::Taken {
+                plan,
+                place,
+                weight,
+            } => carried(self, task as usize, place, plan, weight),
         }
     }
 }

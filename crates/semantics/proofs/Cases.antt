@@ -6,7 +6,7 @@ use mathlib.Core.List.{List, [], _∷_, _++_}
 use mathlib.Core.Bool.{true}
 use lib.ListN.{length}
 use Rattle.tasklist.specs.declared.Instruction.{Instruction}
-use Rattle.tasklist.specs.declared.Instruction.the-variants.{Const, Load, Store, Spawn}
+use Rattle.tasklist.specs.declared.Instruction.the-variants.{Const, Sub, Load, Store, Spawn}
 use Rattle.tasklist.specs.TaskList.{TaskList, body-of, footprint-of, instruction-of, total, adds, count-body, count-from, counts, task-count}
 use Rattle.tasklist.specs.Fields.{field, is-tag, tag, in-range, number, counted, many, row}
 use Rattle.tasklist.specs.Decode.{head-numbers, head, line-limit, line-ok, is-line, line, footprint, forms, form, instruction-ok, is-instruction, instruction, body, list-behind, sized, finish, decode}
@@ -57,6 +57,15 @@ second-reader is = small ((Spawn 1 0 ∷ Spawn 2 0 ∷ []) ∷ [] ∷ is ∷ [] 
 -- job 0 spawns two tasks that spawn one each
 abbrev nested : TaskList
 nested = small ((Spawn 1 0 ∷ Spawn 1 0 ∷ []) ∷ (Spawn 2 0 ∷ []) ∷ [] ∷ [])
+
+-- a footprint reads the location whose number is in register 0, which then holds 2^32 - 1
+abbrev far-register : TaskList
+far-register =
+    record {
+      locations = 2;
+      footprints = (record { kind = 2; value = 0 } ∷ []) ∷ [];
+      bodies = (Const 1 1 ∷ Sub 0 0 1 ∷ Spawn 1 0 ∷ []) ∷ [] ∷ [];
+    }
 
 -- the bytes of a body that spawns these bodies
 abbrev spawns : List ℕ → List ℕ
@@ -113,6 +122,10 @@ cases =
     -- Besides those marked. "With P and input 00 00 01 00 01 00 00 02 it prints the lines 0, 0, 0, 12, 5, 7, `3 21 3`."
     by-calls P (5 ∷ 7 ∷ []) (opening ++ (start-of 2 ∷ [])) (0 ∷ 0 ∷ 0 ∷ 12 ∷ [])
     (memory-is (5 ∷ 7 ∷ []) ∷ calls-are 3 ∷ weight-is 21 ∷ order-is (1 ∷ 2 ∷ 0 ∷ []) ∷ []) ∷
+    -- a runtime that does the whole hand run in the first start would have 9, 9 here
+    by-calls P (5 ∷ 7 ∷ []) (start-of 0 ∷ []) (0 ∷ []) (memory-is (5 ∷ 7 ∷ []) ∷ calls-are 1 ∷ weight-is 5 ∷ []) ∷
+    -- "1: entry not in the job's footprint (C and above included)", by a register line
+    by-hand far-register (5 ∷ 7 ∷ []) (fault-is 0 1 ∷ calls-are 5 ∷ []) ∷
     -- "makes job n + 1 + the counts of all spawns before i": the second child is job 3, whichever spawns first
     by-calls nested (5 ∷ 7 ∷ []) (opening ++ (start-of 3 ∷ step-of 3 ∷ start-of 1 ∷ step-of 1 ∷ []))
     (0 ∷ 0 ∷ 0 ∷ 0 ∷ 0 ∷ 0 ∷ 0 ∷ [])

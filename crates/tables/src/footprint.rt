@@ -11,10 +11,10 @@ use crate::Granting;
 use crate::modes::mode_in;
 use crate::modes::with_mode;
 use crate::search::wide;
+use listing::footprint_size;
+use listing::line_at;
 use tasklist::Line;
 use tasklist::Tables;
-use tasklist::footprint_size;
-use tasklist::line_at;
 
 // A register's number as an index.
 pub fn widened(x: u32) -> usize

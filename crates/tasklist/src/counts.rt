@@ -16,7 +16,7 @@ pub fn clamped(n: u8, most: usize) -> usize
 }
 
 // What one instruction adds to its body's count.
-fn added(instruction: Instruction, known: [u8; 32]) -> u8
+pub fn added(instruction: Instruction, known: [u8; 32]) -> u8
     ensures { λ r. ⌜ r ≡ adds (λ a. getD known a 1) instruction ⌝ }
 {
     match instruction {

@@ -1,5 +1,5 @@
-// Job lists: the reader and the writer of document 01's binary format, and the tables that a read list is kept in.
-// The runtime stands above this crate and uses its promises only.
+// Job lists: the reader of document 01's binary format, and the tables that a read list is kept in. The writer and what is
+// asked of the tables stand above, in `listing`; the runtime above both uses promises only.
 
 // One instruction of a task body (document 01: sheet), one case for each of the nine forms.
 pub enum Instruction {
@@ -154,22 +154,15 @@ pub struct Bodies {
     pub cells: [Cell; 1024],
 }
 
-mod access;
 mod counts;
 mod fields;
 mod instructions;
 mod reader;
-mod writer;
 
-pub use access::body_count;
-pub use access::body_size;
-pub use access::footprint_count;
-pub use access::footprint_size;
-pub use access::instruction_at;
-pub use access::line_at;
-pub use access::task_count;
+pub use counts::added;
+pub use counts::clamped;
+pub use counts::count_at;
+pub use reader::blank;
 pub use reader::check;
 pub use reader::read;
 pub use reader::refusal_number;
-pub use writer::encoded_length;
-pub use writer::write;

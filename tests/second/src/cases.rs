@@ -2,12 +2,11 @@
 
 use crate::coordinator::{call, open_files};
 use crate::list::{
-    check, encode, encode_instruction, task_count, Instruction, Line, TaskList, COUNT_CAP,
+    check, encode, encode_instruction, task_count, task_counts, Instruction, Line, TaskList,
+    COUNT_CAP,
 };
 use crate::rng::Rng;
-use crate::run::{
-    at_its_end, refusal_of_end, refusal_of_start, refusal_of_step, Run, NONE, READ, WAITING, WRITE,
-};
+use crate::run::{at_its_end, test_end, test_start, test_step, Run, NONE, READ, WAITING, WRITE};
 
 /// P of "Publishing examples", byte by byte.
 pub const EXAMPLE_P: [u8; 54] = [
@@ -265,6 +264,20 @@ fn footprint_fits(footprint: &[Line], own: &[u8]) -> bool {
     })
 }
 
+/// What the instructions of one body are drawn from.
+struct Draft<'a> {
+    shape: &'a Shape,
+    /// The list so far: the bodies above s are already made.
+    list: &'a TaskList,
+    homes: &'a [Option<usize>],
+    /// The body's number.
+    s: usize,
+    /// The modes that its jobs most likely have.
+    own: Vec<u8>,
+    /// The counts of the bodies above s.
+    counts: Vec<u64>,
+}
+
 /// The instructions of body s; the bodies above s are already made.
 fn random_body(
     rng: &mut Rng,
@@ -283,17 +296,24 @@ fn random_body(
     } else {
         shape.other_limit
     };
-    let own = likely_modes(list, homes, s);
+    let draft = Draft {
+        shape,
+        list,
+        homes,
+        s,
+        own: likely_modes(list, homes, s),
+        counts: task_counts(list),
+    };
     let mut count = 1;
     let mut body = Vec::new();
     while body.len() < length {
         let mut group = Vec::new();
         if rng.percent(shape.spawn_percent) {
             let room = limit - count;
-            group = spawn_group(rng, shape, s, list, homes, &own, room);
+            group = spawn_group(rng, &draft, room);
         }
         if group.is_empty() {
-            group = other_group(rng, shape, s, list, homes, &own);
+            group = other_group(rng, &draft);
         }
         if body.len() + group.len() > length {
             // No room for the preparation: mostly a wait-free instruction, else the last one alone.
@@ -307,7 +327,7 @@ fn random_body(
         }
         for instruction in group {
             if let Instruction::Spawn { body: a, .. } = instruction {
-                count += task_count(list, a as usize);
+                count += draft.counts[a as usize];
             }
             body.push(instruction);
         }
@@ -328,20 +348,13 @@ fn random_body(
 
 /// A spawn whose count is at most `room`, behind the constants for its register lines; empty when
 /// there is none.
-fn spawn_group(
-    rng: &mut Rng,
-    shape: &Shape,
-    s: usize,
-    list: &TaskList,
-    homes: &[Option<usize>],
-    own: &[u8],
-    room: u64,
-) -> Vec<Instruction> {
+fn spawn_group(rng: &mut Rng, draft: &Draft, room: u64) -> Vec<Instruction> {
+    let (shape, list, homes) = (draft.shape, draft.list, draft.homes);
     let mut group = Vec::new();
     let tame = rng.percent(shape.tame_percent);
     let mut targets = Vec::new();
-    for a in s + 1..shape.bodies {
-        if task_count(list, a) <= room {
+    for a in draft.s + 1..shape.bodies {
+        if draft.counts[a] <= room {
             targets.push(a);
         }
     }
@@ -351,7 +364,7 @@ fn spawn_group(
     let fitting: Vec<usize> = targets
         .iter()
         .copied()
-        .filter(|a| footprint_fits(&list.footprints[homes[*a].unwrap()], own))
+        .filter(|a| footprint_fits(&list.footprints[homes[*a].unwrap()], &draft.own))
         .collect();
     if tame {
         targets = fitting;
@@ -360,9 +373,9 @@ fn spawn_group(
         return group;
     }
     let mut a = rng.pick(&targets);
-    if shape.fill && s == 0 {
+    if shape.fill && draft.s == 0 {
         for other in &targets {
-            if task_count(list, *other) > task_count(list, a) {
+            if draft.counts[*other] > draft.counts[a] {
                 a = *other;
             }
         }
@@ -382,7 +395,7 @@ fn spawn_group(
             if line.kind >= 2 {
                 let needed = line.kind - 1;
                 let free: Vec<usize> = (0..list.locations)
-                    .filter(|location| own[*location] >= needed && !used.contains(location))
+                    .filter(|location| draft.own[*location] >= needed && !used.contains(location))
                     .collect();
                 if !free.is_empty() {
                     let location = rng.pick(&free);
@@ -403,14 +416,8 @@ fn spawn_group(
 }
 
 /// Any instruction but a spawn; a load, store or wait mostly behind the constant for its entry.
-fn other_group(
-    rng: &mut Rng,
-    shape: &Shape,
-    s: usize,
-    list: &TaskList,
-    homes: &[Option<usize>],
-    own: &[u8],
-) -> Vec<Instruction> {
+fn other_group(rng: &mut Rng, draft: &Draft) -> Vec<Instruction> {
+    let shape = draft.shape;
     let a = rng.below(4) as u8;
     let b = rng.below(4) as u8;
     let c = rng.below(4) as u8;
@@ -440,7 +447,7 @@ fn other_group(
             let mut group = Vec::new();
             let mut register = rng.below(4) as u8;
             if rng.percent(shape.tame_percent) {
-                match prepare_location(rng, s, list, homes, own, needed, &mut group) {
+                match prepare_location(rng, draft, needed, &mut group) {
                     Some(prepared) => register = prepared,
                     None => return vec![Instruction::Const { a, value: b as u16 }],
                 }
@@ -459,16 +466,13 @@ fn other_group(
 /// of its footprint used, or one that a constant sets now; none when it has no such entry.
 fn prepare_location(
     rng: &mut Rng,
-    s: usize,
-    list: &TaskList,
-    homes: &[Option<usize>],
-    own: &[u8],
+    draft: &Draft,
     needed: u8,
     group: &mut Vec<Instruction>,
 ) -> Option<u8> {
     let mut inherited = Vec::new();
-    if let Some(f) = homes[s] {
-        for line in &list.footprints[f] {
+    if let Some(f) = draft.homes[draft.s] {
+        for line in &draft.list.footprints[f] {
             if line.kind >= 2 && line.kind > needed {
                 inherited.push(line.value);
             }
@@ -477,7 +481,9 @@ fn prepare_location(
     if !inherited.is_empty() && rng.percent(50) {
         return Some(rng.pick(&inherited));
     }
-    let fitting: Vec<usize> = (0..list.locations).filter(|e| own[*e] >= needed).collect();
+    let fitting: Vec<usize> = (0..draft.list.locations)
+        .filter(|e| draft.own[*e] >= needed)
+        .collect();
     if fitting.is_empty() {
         return None;
     }
@@ -886,6 +892,17 @@ pub const STRATEGIES: [Strategy; 6] = [
     Strategy::LateEnds,
 ];
 
+/// The kind of an unended job's only possible next call; it may be held back.
+fn next_kind(run: &Run, task: usize) -> u8 {
+    if run.records[task].state == WAITING {
+        0
+    } else if at_its_end(run, task) {
+        2
+    } else {
+        1
+    }
+}
+
 /// An accepted call, none when there is none: each job's only possible next call, in the order that
 /// the strategy prefers.
 pub fn sensible_call(rng: &mut Rng, strategy: Strategy, run: &Run, last: u32) -> Option<(u8, u32)> {
@@ -909,14 +926,13 @@ pub fn sensible_call(rng: &mut Rng, strategy: Strategy, run: &Run, last: u32) ->
     }
     for task in tasks {
         let number = task as u32;
-        let (kind, refusal) = if run.records[task].state == WAITING {
-            (0, refusal_of_start(run, number))
-        } else if at_its_end(run, task) {
-            (2, refusal_of_end(run, number))
-        } else {
-            (1, refusal_of_step(run, number))
+        let kind = next_kind(run, task);
+        let answer = match kind {
+            0 => test_start(run, number),
+            1 => test_step(run, number),
+            _ => test_end(run, number),
         };
-        if refusal.is_none() {
+        if answer.is_ok() {
             return Some((kind, number));
         }
     }
@@ -925,6 +941,10 @@ pub fn sensible_call(rng: &mut Rng, strategy: Strategy, run: &Run, last: u32) ->
 
 /// Any call, mostly one that is refused.
 pub fn any_call(rng: &mut Rng, run: &Run) -> (u8, u32) {
+    if rng.percent(30) && !run.order.is_empty() {
+        let task = rng.pick(&run.order);
+        return (next_kind(run, task), task as u32);
+    }
     let kind = rng.below(3) as u8;
     let task = match rng.below(11) {
         0 => rng.between(128, 255) as u32,

@@ -5,9 +5,11 @@
 //! sheet = body, place = pc, mark = tag, instructions done = steps, held back = blocked.
 //! A refusal is document 01's number, as `Err(number)`.
 
+pub mod case_file;
 pub mod cases;
 pub mod coordinator;
 pub mod list;
+pub mod named;
 pub mod rng;
 pub mod run;
 

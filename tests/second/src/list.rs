@@ -109,8 +109,18 @@ pub fn check(bytes: &[u8]) -> Result<u32, u32> {
     Ok(task_count(&list, 0) as u32)
 }
 
-/// "A job list is a file of records": the list of these bytes, or check's refusal.
+/// The list of these bytes, or check's refusal.
 pub fn decode(bytes: &[u8]) -> Result<TaskList, u32> {
+    let list = decode_records(bytes)?;
+    // "then 7, count(0) above 128"
+    if task_count(&list, 0) > 128 {
+        return Err(TOO_MANY_TASKS);
+    }
+    Ok(list)
+}
+
+/// "A job list is a file of records": decode, but for 7.
+pub fn decode_records(bytes: &[u8]) -> Result<TaskList, u32> {
     let mut reader = Reader { bytes, taken: 0 };
     // "Head: 4A 48, then entries C (1 to 64), footprints (0 to 32), sheets (1 to 32)."
     reader.take_tag(HEAD_TAG)?;
@@ -130,12 +140,9 @@ pub fn decode(bytes: &[u8]) -> Result<TaskList, u32> {
         let body = take_body(&mut reader, own_number, body_count, footprint_count)?;
         list.bodies.push(body);
     }
-    // "Then 6, bytes left over; then 7, count(0) above 128."
+    // "Then 6, bytes left over"
     if !reader.nothing_left() {
         return Err(LEFT_OVER);
-    }
-    if task_count(&list, 0) > 128 {
-        return Err(TOO_MANY_TASKS);
     }
     Ok(list)
 }

@@ -201,22 +201,37 @@ fn step_weight(instruction: &Instruction) -> u64 {
     }
 }
 
-/// "Start: 9 number above 127; 10 not in the order; 11 already started; 12 held back."
-pub fn refusal_of_start(run: &Run, number: u32) -> Option<u32> {
+/// "9 number above 127; 10 not in the order": what each call tests first. Else the job.
+fn test_number(run: &Run, number: u32) -> Result<usize, u32> {
     if number > 127 {
-        return Some(ABOVE_127);
+        return Err(ABOVE_127);
     }
     let task = number as usize;
     if !in_order(run, task) {
-        return Some(NOT_IN_ORDER);
+        return Err(NOT_IN_ORDER);
     }
+    Ok(task)
+}
+
+/// "9; 10; 13 not started": what step and end test first. Else the job.
+fn test_started(run: &Run, number: u32) -> Result<usize, u32> {
+    let task = test_number(run, number)?;
+    if run.records[task].state != STARTED {
+        return Err(NOT_STARTED);
+    }
+    Ok(task)
+}
+
+/// "Start: 9 number above 127; 10 not in the order; 11 already started; 12 held back." Else the job.
+pub fn test_start(run: &Run, number: u32) -> Result<usize, u32> {
+    let task = test_number(run, number)?;
     if run.records[task].state == STARTED {
-        return Some(ALREADY_STARTED);
+        return Err(ALREADY_STARTED);
     }
     if !start_may_go(run, task) {
-        return Some(BLOCKED);
+        return Err(BLOCKED);
     }
-    None
+    Ok(task)
 }
 
 /// "Start: the job may read each entry of mode 1 and write each of mode 2".
@@ -231,35 +246,23 @@ fn start_may_go(run: &Run, task: usize) -> bool {
 
 /// "Start: ...; its state becomes 2."
 pub fn start(run: &mut Run, number: u32) -> Result<(), u32> {
-    if let Some(refusal) = refusal_of_start(run, number) {
-        return Err(refusal);
-    }
-    let task = number as usize;
+    let task = test_start(run, number)?;
     run.records[task].state = STARTED;
     count_call(run, task, START_WEIGHT);
     Ok(())
 }
 
-/// "Step: 9; 10; 13 not started; 14 at its end; 12." "Faults come before waiting."
-pub fn refusal_of_step(run: &Run, number: u32) -> Option<u32> {
-    if number > 127 {
-        return Some(ABOVE_127);
-    }
-    let task = number as usize;
-    if !in_order(run, task) {
-        return Some(NOT_IN_ORDER);
-    }
-    if run.records[task].state != STARTED {
-        return Some(NOT_STARTED);
-    }
+/// "Step: 9; 10; 13 not started; 14 at its end; 12." "Faults come before waiting." Else the job.
+pub fn test_step(run: &Run, number: u32) -> Result<usize, u32> {
+    let task = test_started(run, number)?;
     if at_its_end(run, task) {
-        return Some(AT_ITS_END);
+        return Err(AT_ITS_END);
     }
     let instruction = instruction_at(run, task);
     if fault_of(run, task, &instruction) == 0 && !step_may_go(run, task, &instruction) {
-        return Some(BLOCKED);
+        return Err(BLOCKED);
     }
-    None
+    Ok(task)
 }
 
 /// "Load needs reading, store needs writing, wait needs what the job's own mode there allows. Const,
@@ -336,10 +339,7 @@ fn line_mode(line: &Line) -> u8 {
 
 /// "Step: one instruction; place rises by 1 plus what a skip passes over, instructions done by 1."
 pub fn step(run: &mut Run, number: u32) -> Result<(), u32> {
-    if let Some(refusal) = refusal_of_step(run, number) {
-        return Err(refusal);
-    }
-    let task = number as usize;
+    let task = test_step(run, number)?;
     let instruction = instruction_at(run, task);
     let fault = fault_of(run, task, &instruction);
     // "A faulting step is accepted, counts and weighs; done rises"
@@ -417,31 +417,19 @@ fn spawn(run: &mut Run, task: usize, body: usize, footprint: usize) {
     run.order.insert(place_in_order, child);
 }
 
-/// "End: 9; 10; 13; 15 not at its end."
-pub fn refusal_of_end(run: &Run, number: u32) -> Option<u32> {
-    if number > 127 {
-        return Some(ABOVE_127);
-    }
-    let task = number as usize;
-    if !in_order(run, task) {
-        return Some(NOT_IN_ORDER);
-    }
-    if run.records[task].state != STARTED {
-        return Some(NOT_STARTED);
-    }
+/// "End: 9; 10; 13; 15 not at its end." Else the job.
+pub fn test_end(run: &Run, number: u32) -> Result<usize, u32> {
+    let task = test_started(run, number)?;
     if !at_its_end(run, task) {
-        return Some(NOT_AT_ITS_END);
+        return Err(NOT_AT_ITS_END);
     }
-    None
+    Ok(task)
 }
 
 /// "End: at the end of its sheet or after a fault, the job leaves the order and its state becomes 3.
 /// Its children keep their places."
 pub fn end(run: &mut Run, number: u32) -> Result<(), u32> {
-    if let Some(refusal) = refusal_of_end(run, number) {
-        return Err(refusal);
-    }
-    let task = number as usize;
+    let task = test_end(run, number)?;
     run.order.retain(|other| *other != task);
     run.records[task].state = ENDED;
     count_call(run, task, END_WEIGHT);
@@ -487,11 +475,11 @@ fn run_whole(run: &mut Run, task: usize) {
     start(run, task as u32).expect("the hand run's start is accepted");
     while !at_its_end(run, task) {
         let instruction = instruction_at(run, task);
-        let child = child_number(run, task, run.records[task].pc);
+        let pc = run.records[task].pc;
         step(run, task as u32).expect("the hand run's step is accepted");
         let faulted = run.records[task].fault != 0;
         if matches!(instruction, Instruction::Spawn { .. }) && !faulted {
-            run_whole(run, child);
+            run_whole(run, child_number(run, task, pc));
         }
     }
     end(run, task as u32).expect("the hand run's end is accepted");

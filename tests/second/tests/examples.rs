@@ -1,40 +1,14 @@
 //! Every example of document 01, "Publishing examples", and single sentences with a number in them.
 
 use second::cases::{doubling_list, library_bytes, EXAMPLE_P};
+use second::named::{constant, list, read_line, spawn, write_line, LIBRARY_P};
 use second::run::{may_read, never_made, ENDED, STARTED, WAITING};
 use second::*;
-
-const LIBRARY: [u32; 2] = [5, 7];
 
 fn queue_of(run: &Run, location: u32) -> Vec<u16> {
     let mut places = [0; 128];
     let count = queue(run, location, &mut places).unwrap();
     places[..count].to_vec()
-}
-
-fn spawn(body: u8, footprint: u8) -> Instruction {
-    Instruction::Spawn { body, footprint }
-}
-
-fn constant(a: u8, value: u16) -> Instruction {
-    Instruction::Const { a, value }
-}
-
-fn read(value: u8) -> Line {
-    Line { kind: 0, value }
-}
-
-fn write_line(value: u8) -> Line {
-    Line { kind: 1, value }
-}
-
-/// The bytes of a list with these parts.
-fn list(locations: usize, footprints: &[&[Line]], bodies: &[&[Instruction]]) -> Vec<u8> {
-    encode(&TaskList {
-        locations,
-        footprints: footprints.iter().map(|lines| lines.to_vec()).collect(),
-        bodies: bodies.iter().map(|body| body.to_vec()).collect(),
-    })
 }
 
 /// Start, then as many steps.
@@ -49,7 +23,7 @@ fn start_and_step(run: &mut Run, task: u32, steps: usize) {
 fn p_has_54_bytes_and_three_jobs() {
     let p = list(
         2,
-        &[&[write_line(0)], &[read(0), write_line(1)]],
+        &[&[write_line(0)], &[read_line(0), write_line(1)]],
         &[
             &[spawn(1, 0), spawn(2, 1)],
             &[constant(1, 9), Instruction::Store { a: 0, b: 1 }],
@@ -67,7 +41,7 @@ fn p_has_54_bytes_and_three_jobs() {
 
 #[test]
 fn p_hand_run() {
-    let run = hand_run(&EXAMPLE_P, &LIBRARY).unwrap();
+    let run = hand_run(&EXAMPLE_P, &LIBRARY_P).unwrap();
     assert_eq!(run.memory, [9, 9]);
     assert_eq!(run.calls, 13);
     assert_eq!(run.weight, 50);
@@ -86,7 +60,7 @@ fn p_hand_run() {
 
 #[test]
 fn p_orders_and_queues() {
-    let mut run = open(&EXAMPLE_P, &LIBRARY).unwrap();
+    let mut run = open(&EXAMPLE_P, &LIBRARY_P).unwrap();
     assert_eq!(run.order, [0]);
     assert_eq!(run.records[0].state, WAITING);
     start_and_step(&mut run, 0, 2);
@@ -106,7 +80,7 @@ fn p_orders_and_queues() {
 
 #[test]
 fn queue_refusals() {
-    let mut run = open(&EXAMPLE_P, &LIBRARY).unwrap();
+    let mut run = open(&EXAMPLE_P, &LIBRARY_P).unwrap();
     start_and_step(&mut run, 0, 2);
     let mut places = [7u16; 2];
     assert_eq!(queue(&run, 2, &mut places), Err(16));
@@ -122,7 +96,7 @@ fn queue_refusals() {
 fn two_readers_start_beside_each_other() {
     let bytes = list(
         1,
-        &[&[read(0)]],
+        &[&[read_line(0)]],
         &[
             &[
                 spawn(1, 0),
@@ -151,7 +125,7 @@ fn two_readers_start_beside_each_other() {
 fn a_writer_does_not_pass_a_reader() {
     let bytes = list(
         1,
-        &[&[read(0)], &[write_line(0)]],
+        &[&[read_line(0)], &[write_line(0)]],
         &[&[spawn(1, 0), spawn(1, 1), spawn(1, 0)], &[]],
     );
     let mut run = open(&bytes, &[5]).unwrap();
@@ -169,7 +143,7 @@ fn a_writer_does_not_pass_a_reader() {
 fn store_to_a_read_entry_is_fault_2() {
     let bytes = list(
         1,
-        &[&[read(0)]],
+        &[&[read_line(0)]],
         &[
             &[spawn(1, 0), spawn(1, 0)],
             &[constant(1, 9), Instruction::Store { a: 0, b: 1 }],
@@ -198,7 +172,7 @@ fn load_at_c_is_fault_1() {
             &[],
             &[&[constant(0, number), Instruction::Load { a: 1, b: 0 }]],
         );
-        let run = hand_run(&bytes, &LIBRARY).unwrap();
+        let run = hand_run(&bytes, &LIBRARY_P).unwrap();
         let record = record(&run, 0).unwrap();
         assert_eq!((record.fault, record.pc, record.steps), (1, 1, 2));
         assert_eq!(record.registers, [number as u32, 0, 0, 0]);
@@ -209,17 +183,17 @@ fn load_at_c_is_fault_1() {
 #[test]
 fn an_entry_named_twice_is_fault_3() {
     for lines in [
-        [read(0), read(0)],
-        [read(0), write_line(0)],
+        [read_line(0), read_line(0)],
+        [read_line(0), write_line(0)],
         [write_line(0), write_line(0)],
     ] {
         let bytes = list(2, &[&lines], &[&[spawn(1, 0), constant(0, 1)], &[]]);
-        let mut run = open(&bytes, &LIBRARY).unwrap();
+        let mut run = open(&bytes, &LIBRARY_P).unwrap();
         start_and_step(&mut run, 0, 1);
         assert_eq!(run.records[0].fault, 3);
         assert_eq!(run.order, [0]);
         assert_eq!(run.records[1], never_made());
-        let run = hand_run(&bytes, &LIBRARY).unwrap();
+        let run = hand_run(&bytes, &LIBRARY_P).unwrap();
         assert_eq!((run.calls, run.weight), (3, 15));
         assert_eq!(run.records[1], never_made());
     }
@@ -230,19 +204,19 @@ fn lines_are_tested_in_turn() {
     let by_register = Line { kind: 2, value: 0 };
     let cases: [(&[Line], u8); 5] = [
         // Own mode of the spawner: read 0, none at 1.
-        (&[read(0), write_line(0)], 2),
-        (&[read(0), read(0), read(1)], 3),
-        (&[read(1), write_line(0)], 1),
-        (&[read(0), by_register], 3),
+        (&[read_line(0), write_line(0)], 2),
+        (&[read_line(0), read_line(0), read_line(1)], 3),
+        (&[read_line(1), write_line(0)], 1),
+        (&[read_line(0), by_register], 3),
         (&[by_register], 0),
     ];
     for (lines, fault) in cases {
         let bytes = list(
             2,
-            &[&[read(0)], lines],
+            &[&[read_line(0)], lines],
             &[&[spawn(1, 0)], &[spawn(2, 1)], &[]],
         );
-        let run = hand_run(&bytes, &LIBRARY).unwrap();
+        let run = hand_run(&bytes, &LIBRARY_P).unwrap();
         assert_eq!(run.records[1].fault, fault);
         assert_eq!(run.records[2].state, if fault == 0 { ENDED } else { 0 });
     }
@@ -253,7 +227,7 @@ fn a_child_copies_registers_and_modes() {
     let by_register = Line { kind: 3, value: 1 };
     let bytes = list(
         3,
-        &[&[read(0), by_register]],
+        &[&[read_line(0), by_register]],
         &[
             &[constant(1, 2), constant(3, 8), spawn(1, 0), constant(3, 9)],
             &[],
@@ -283,7 +257,7 @@ fn wait_follows_the_own_mode() {
     // A job of mode write waits for the reader ahead; a job of mode read doesn't.
     let bytes = list(
         1,
-        &[&[read(0)]],
+        &[&[read_line(0)]],
         &[
             &[spawn(1, 0), spawn(2, 0), wait],
             &[],
@@ -319,7 +293,7 @@ fn empty_body_0() {
 
 #[test]
 fn end_needs_the_end() {
-    let mut run = open(&EXAMPLE_P, &LIBRARY).unwrap();
+    let mut run = open(&EXAMPLE_P, &LIBRARY_P).unwrap();
     start_and_step(&mut run, 0, 1);
     assert_eq!(end(&mut run, 0), Err(15));
 }
@@ -415,7 +389,7 @@ fn check_examples() {
 
 #[test]
 fn the_longest_list_and_huge_counts() {
-    let line = [read(0); 8];
+    let line = [read_line(0); 8];
     let mut bodies: Vec<Vec<Instruction>> = Vec::new();
     for s in 0..31 {
         bodies.push(vec![spawn(s + 1, 0); 32]);
@@ -460,7 +434,7 @@ fn writer_refusal() {
 
 #[test]
 fn coordinator_lines() {
-    let library = library_bytes(&LIBRARY);
+    let library = library_bytes(&LIBRARY_P);
     let input = [0x00, 0x00, 0x01, 0x00, 0x01, 0x00, 0x00, 0x02];
     assert_eq!(
         transcript(&EXAMPLE_P, &library, &input),
@@ -481,7 +455,7 @@ fn coordinator_lines() {
 
 #[test]
 fn preview_functions() {
-    let library = library_bytes(&LIBRARY);
+    let library = library_bytes(&LIBRARY_P);
     assert_eq!(preview_check(&EXAMPLE_P), 3);
     assert_eq!(preview_check(&[]), 129);
     assert_eq!(preview_check(&encode(&doubling_list(1))), 128);

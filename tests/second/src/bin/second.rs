@@ -4,12 +4,15 @@
 //! second list-cases SEED N          N lines: list in hexadecimal, `ok COUNT` or `refused K`
 //! second list-files SEED N DIR      N lists as files of DIR, and a line for each, as check prints it
 //! second run-cases SEED N           N lines: jobs, library, input in hexadecimal, transcript
+//! second cases-file SEED N OUT      a file of cases: the named ones, then N random ones
+//! second cases-output FILE          what is to be printed for a file of cases
 
 use std::io::{Read, Write};
 
-use second::cases;
+use second::case_file::{cases_output, decode_cases, encode_cases, MOST_BYTES};
 use second::coordinator::open_files;
 use second::rng::Rng;
+use second::{cases, named};
 
 fn main() {
     let arguments: Vec<String> = std::env::args().skip(1).collect();
@@ -41,10 +44,7 @@ fn main() {
             for i in 0..number(n) {
                 let bytes = cases::list_case(&mut rng);
                 let path = format!("{folder}/{i:06}.bin");
-                if let Err(error) = std::fs::write(&path, &bytes) {
-                    eprintln!("{path}: {error}");
-                    std::process::exit(1)
-                }
+                write_file(&path, &bytes);
                 text.push_str(&answer(&bytes));
             }
             text
@@ -59,6 +59,25 @@ fn main() {
             }
             text
         }
+        ["cases-file", seed, n, out] => {
+            let cases = named::stored_cases(number(seed), number(n) as usize);
+            let bytes = encode_cases(&cases);
+            if bytes.len() > MOST_BYTES {
+                fail(&format!(
+                    "{} bytes; a file of cases has at most {MOST_BYTES}",
+                    bytes.len()
+                ))
+            }
+            write_file(out, &bytes);
+            format!("{} cases, {} bytes\n", cases.len(), bytes.len())
+        }
+        ["cases-output", path] => match std::fs::read(path) {
+            Ok(bytes) => match decode_cases(&bytes) {
+                Some(cases) => cases_output(&cases),
+                None => fail(&format!("{path}: not a file of cases")),
+            },
+            Err(error) => fail(&format!("{path}: {error}")),
+        },
         _ => usage(),
     };
     let _ = std::io::stdout().write_all(text.as_bytes());
@@ -74,6 +93,17 @@ fn answer(list: &[u8]) -> String {
 /// "an unreadable file counts as empty"
 fn file(path: &str) -> Vec<u8> {
     std::fs::read(path).unwrap_or_default()
+}
+
+fn write_file(path: &str, bytes: &[u8]) {
+    if let Err(error) = std::fs::write(path, bytes) {
+        fail(&format!("{path}: {error}"))
+    }
+}
+
+fn fail(text: &str) -> ! {
+    eprintln!("{text}");
+    std::process::exit(1)
 }
 
 fn standard_input() -> Vec<u8> {
@@ -92,6 +122,9 @@ fn number(word: &str) -> u64 {
 }
 
 fn usage() -> ! {
-    eprintln!("second check | transcript JOBS LIBRARY | list-cases SEED N | list-files SEED N DIR | run-cases SEED N");
+    eprintln!(
+        "second check | transcript JOBS LIBRARY | list-cases SEED N | list-files SEED N DIR \
+         | run-cases SEED N | cases-file SEED N OUT | cases-output FILE"
+    );
     std::process::exit(2)
 }

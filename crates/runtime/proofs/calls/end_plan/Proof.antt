@@ -51,8 +51,7 @@ returns c =
     λ s. end-waiting (run-at at) (task-at at) (found at .0) s (place-at at) (found at .1 s) (c .if1 .taken)
 
 at-end-requires : tie.Need-at-end-requires
-at-end-requires c κs =
-    found (c .before .before .before .before) .0
+at-end-requires c κs = search needs
 
 returns-2 : tie.Need-returns-2
 unfolding refusal-number
@@ -61,7 +60,7 @@ returns-2 c =
     let free : SoundRun (run-at at) → decided (run-at at) «end» (task-at at) ≡ accept (end-effect (run-at at) (task-at at)) =
     λ s.
     end-free (run-at at) (task-at at) (found at .0) s (place-at at) (found at .1 s) (c .before .before .if1 .left) (c .before .at-end .result)
-    (c .before .at-end .ensures s) (c .if2 .taken) in
+    (c .before .at-end .ensures (found at .0) s) (c .if2 .taken) in
     (found at .0, λ s. (found at .1 s, free s))
 
 returns-3 : tie.Need-returns-3
@@ -75,7 +74,7 @@ returns-4 c =
     let at = c .before .before .before .before .before .before in
     λ s.
     end-too-soon (run-at at) (task-at at) (found at .0) s (place-at at) (found at .1 s) (c .before .before .if1 .left) (c .before .at-end .result)
-    (c .before .at-end .ensures s) (c .if2 .left)
+    (c .before .at-end .ensures (found at .0) s) (c .if2 .left)
 
 pub end-plan-spec : {M : Type 1} → statement M
 end-plan-spec =

@@ -21,7 +21,7 @@ use Rattle.runtime.proofs.calls.place_of.Reads as place-of-reads
 use Rattle.runtime.proofs.parts.code_of.Reads as code-of-reads
 use Rattle.runtime.proofs.parts.plan_of.Reads as plan-of-reads
 use Rattle.runtime.proofs.step.is_held.Reads as is-held-reads
-use Rattle.tasklist.proofs.instruction_at.Reads as instruction-at-reads
+use Rattle.listing.proofs.instruction_at.Reads as instruction-at-reads
 
 place-of-requires : tie.Need-place-of-requires
 place-of-requires c κs = search needs
@@ -58,12 +58,7 @@ returns c =
     λ s. step-waiting run n (there .0) s place (there .1 s) (c .if1 .taken)
 
 at-end-requires : tie.Need-at-end-requires
-at-end-requires c κs =
-    let run = c .before .before .before .before .before .before .before .args .t1 in
-    let n = c .before .before .before .before .before .before .before .args .task in
-    let place = c .before .before .before .before .found2 .given .0 .0 in
-    let there = subst (LocatedAs run n) (c .before .before .before .before .found2 .given .1) (c .before .before .before .before .before .before .place-of .ensures) in
-    there .0
+at-end-requires c κs = search needs
 
 returns-2 : tie.Need-returns-2
 unfolding refusal-number
@@ -72,7 +67,7 @@ returns-2 c =
     let n = c .before .before .before .before .before .before .before .before .before .args .task in
     let place = c .before .before .before .before .before .before .found2 .given .0 .0 in
     let there = subst (LocatedAs run n) (c .before .before .before .before .before .before .found2 .given .1) (c .before .before .before .before .before .before .before .before .place-of .ensures) in
-    λ s. step-finished run n (there .0) s place (there .1 s) (c .before .before .if1 .left) (c .before .at-end .result) (c .before .at-end .ensures s) (c .if2 .taken)
+    λ s. step-finished run n (there .0) s place (there .1 s) (c .before .before .if1 .left) (c .before .at-end .result) (c .before .at-end .ensures (there .0) s) (c .if2 .taken)
 
 cast-instruction-at : tie.Need-cast-instruction-at
 cast-instruction-at c = search needs
@@ -104,7 +99,7 @@ returns-3 c =
     let n = c .before .before .before .before .before .before .before .before .before .before .before .before .before .before .before .before .before .args .task in
     let place = c .before .before .before .before .before .before .before .before .before .before .before .before .before .before .found2 .given .0 .0 in
     let there = subst (LocatedAs run n) (c .before .before .before .before .before .before .before .before .before .before .before .before .before .before .found2 .given .1) (c .before .before .before .before .before .before .before .before .before .before .before .before .before .before .before .before .place-of .ensures) in
-    λ s. step-settled run n (there .0) s place (there .1 s) (c .before .before .before .before .before .before .before .before .before .before .if1 .left) (c .before .before .before .before .before .before .before .before .before .at-end .result) (c .before .before .before .before .before .before .before .before .before .at-end .ensures s) (c .before .before .before .before .before .before .before .before .if2 .left) (c .before .before .before .before .instruction-at .result) (c .before .before .before .code-of .result) (c .before .before .before .before .instruction-at .ensures) (c .before .before .before .code-of .ensures .0) (c .before .before .plan-of .result) (c .before .before .plan-of .ensures)
+    λ s. step-settled run n (there .0) s place (there .1 s) (c .before .before .before .before .before .before .before .before .before .before .if1 .left) (c .before .before .before .before .before .before .before .before .before .at-end .result) (c .before .before .before .before .before .before .before .before .before .at-end .ensures (there .0) s) (c .before .before .before .before .before .before .before .before .if2 .left) (c .before .before .before .before .instruction-at .result) (c .before .before .before .code-of .result) (c .before .before .before .before .instruction-at .ensures) (c .before .before .before .code-of .ensures .0) (c .before .before .plan-of .result) (c .before .before .plan-of .ensures)
     ∙ held-refused run n (weight-of (context-of run) (c .before .before .before .code-of .result + 2)) (c .before .before .plan-of .result) (sym (c .before .is-held .ensures) ∙ c .if3 .taken)
 
 add-t24 : tie.Need-add-t24
@@ -132,7 +127,7 @@ returns-5 c =
       (unfold weight-of fixed-weights in fixed-light (list-of (run .tables)) (c .before .before .before .code-of .result + 2)),
       λ s. (
         there .1 s,
-        step-settled run n (there .0) s place (there .1 s) (c .before .before .before .before .before .before .before .before .before .before .if1 .left) (c .before .before .before .before .before .before .before .before .before .at-end .result) (c .before .before .before .before .before .before .before .before .before .at-end .ensures s) (c .before .before .before .before .before .before .before .before .if2 .left) (c .before .before .before .before .instruction-at .result) (c .before .before .before .code-of .result) (c .before .before .before .before .instruction-at .ensures) (c .before .before .before .code-of .ensures .0) (c .before .before .plan-of .result) (c .before .before .plan-of .ensures),
+        step-settled run n (there .0) s place (there .1 s) (c .before .before .before .before .before .before .before .before .before .before .if1 .left) (c .before .before .before .before .before .before .before .before .before .at-end .result) (c .before .before .before .before .before .before .before .before .before .at-end .ensures (there .0) s) (c .before .before .before .before .before .before .before .before .if2 .left) (c .before .before .before .before .instruction-at .result) (c .before .before .before .code-of .result) (c .before .before .before .before .instruction-at .ensures) (c .before .before .before .code-of .ensures .0) (c .before .before .plan-of .result) (c .before .before .plan-of .ensures),
       ),
     )
 

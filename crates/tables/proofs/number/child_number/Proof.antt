@@ -59,15 +59,15 @@ loop-less c = search needs
 
 loop-again : tie.Need-loop-again Inv-loop μ-loop
 loop-again c =
-    let a = c .before .before .before .before .before .before .before .before .args in
-    let at = c .before .before .before .before .before .loop in (
+    let a = c .before .before .before .before .before .before .before .before .before .args in
+    let at = c .before .before .before .before .before .before .loop in (
       search needs,
       search needs,
       search needs,
       search needs,
       search needs,
-      counted-more (a .tables) (a .task) (a .body) (a .pc) (at .n) (at .i) (c .wide .result) (c .before .before .instruction-at .result) (omega arith) (omega arith)
-          (c .before .before .instruction-at .ensures) (c .wide .ensures .0 ∙ c .before .added .ensures) (at .inv .5),
+      counted-more (a .tables) (a .task) (a .body) (a .pc) (at .n) (at .i) (c .wide .result) (c .before .before .before .instruction-at .result) (omega arith) (omega arith)
+          (c .before .before .before .instruction-at .ensures) (c .wide .ensures .0 ∙ c .before .added .ensures) (at .inv .5),
     )
 
 returns-3 : tie.Need-returns-3 Inv-loop μ-loop

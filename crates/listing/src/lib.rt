@@ -1,0 +1,14 @@
+// What is asked of a decoded job list: its counts, sizes, lines and instructions, and its own bytes again (the writer).
+// The reader and the tables stand beneath, in `tasklist`.
+mod access;
+mod writer;
+
+pub use access::body_count;
+pub use access::body_size;
+pub use access::footprint_count;
+pub use access::footprint_size;
+pub use access::instruction_at;
+pub use access::line_at;
+pub use access::task_count;
+pub use writer::encoded_length;
+pub use writer::write;

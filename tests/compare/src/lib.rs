@@ -1,0 +1,35 @@
+//! What the comparing programs share; each compares one program with the second implementation.
+
+pub mod coordinator;
+pub mod options;
+pub mod preview;
+pub mod shrink;
+
+/// How often each refusal was met, as `1 x 20, 2 x 7`.
+pub fn refusal_words(counts: &[u64]) -> String {
+    let words: Vec<String> = counts
+        .iter()
+        .enumerate()
+        .filter(|(_, count)| **count > 0)
+        .map(|(refusal, count)| format!("{refusal} x {count}"))
+        .collect();
+    words.join(", ")
+}
+
+#[cfg(test)]
+mod tests {
+    use second::case_file::{cases_output, encode_cases};
+    use second::named::{stored_cases, STORED_COUNT, STORED_SEED};
+
+    #[test]
+    fn the_stored_cases_are_those_of_the_second_implementation() {
+        let cases = stored_cases(STORED_SEED, STORED_COUNT);
+        assert!(encode_cases(&cases) == include_bytes!("../../cases/cases.bin"));
+        assert!(cases_output(&cases) == include_str!("../../cases/expected"));
+    }
+
+    #[test]
+    fn refusals_in_words() {
+        assert_eq!(super::refusal_words(&[0, 3, 0, 1]), "1 x 3, 3 x 1");
+    }
+}

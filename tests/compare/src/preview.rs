@@ -1,0 +1,581 @@
+//! The preview's two C functions beside the second implementation's.
+
+use std::time::Duration;
+
+use second::cases::{alterations, damaged_list, hex, library_bytes, list_case, random_library};
+use second::cases::{random_list, too_many_tasks, EXAMPLE_P};
+use second::list::decode_records;
+use second::named::{deepest_list, longest_list};
+use second::rng::Rng;
+use second::{encode, preview_check, preview_hand_run};
+
+use crate::refusal_words;
+use crate::shrink::{less_entries, shrink, smaller_bytes, smaller_lists};
+
+/// preview_check(list, list_len)
+pub type Check = unsafe extern "C" fn(*const u8, usize) -> u32;
+/// preview_hand_run(list, list_len, library, library_len, result, result_len)
+pub type HandRun = unsafe extern "C" fn(*const u8, usize, *const u8, usize, *mut u8, usize) -> u32;
+
+/// What is compared. Both must be safe to call with any slices.
+#[derive(Clone, Copy)]
+pub struct Functions {
+    pub check: Check,
+    pub hand_run: HandRun,
+}
+
+/// Bytes that are lent, and those that stand behind them: what was cut off, mostly nothing.
+#[derive(Clone, Debug, Default, PartialEq, Eq)]
+pub struct Lent {
+    pub bytes: Vec<u8>,
+    pub behind: Vec<u8>,
+}
+
+/// What the two functions take.
+#[derive(Clone, Debug, PartialEq, Eq)]
+pub struct Case {
+    pub list: Lent,
+    pub library: Lent,
+    /// The length of the result slice.
+    pub result: usize,
+    /// How far the slices stand from an even place, 0 to 7.
+    pub shift: usize,
+}
+
+/// What the two functions gave.
+#[derive(Clone, Debug, PartialEq, Eq)]
+pub struct Answers {
+    pub check: u32,
+    pub hand_run: u32,
+    /// The result slice after the hand run.
+    pub result: Vec<u8>,
+    /// What else was written: names of slices.
+    pub spoiled: Vec<&'static str>,
+}
+
+/// The bytes before and behind each lent slice.
+const CANARIES: usize = 64;
+
+fn canary(place: usize) -> u8 {
+    (place as u8).wrapping_mul(37) ^ 0xC3
+}
+
+/// What the result slice holds before the hand run.
+fn filling(place: usize) -> u8 {
+    (place as u8).wrapping_mul(101) ^ 0x5A
+}
+
+/// A lent slice between canaries.
+struct Guarded {
+    all: Vec<u8>,
+    before: Vec<u8>,
+    start: usize,
+    length: usize,
+}
+
+impl Guarded {
+    fn new(lent: &[u8], behind: &[u8], shift: usize) -> Guarded {
+        let start = CANARIES + shift;
+        let mut all: Vec<u8> = (0..start).map(canary).collect();
+        all.extend(lent);
+        all.extend(behind);
+        all.extend((0..CANARIES).map(canary));
+        Guarded {
+            before: all.clone(),
+            all,
+            start,
+            length: lent.len(),
+        }
+    }
+
+    fn of(lent: &Lent, shift: usize) -> Guarded {
+        Guarded::new(&lent.bytes, &lent.behind, shift)
+    }
+
+    /// Also for the slices that may only be read: a function may write to them all the same.
+    fn pointer(&mut self) -> *mut u8 {
+        self.all[self.start..].as_mut_ptr()
+    }
+
+    /// Nothing was written, in the slice or around it.
+    fn unchanged(&self) -> bool {
+        self.all == self.before
+    }
+
+    /// Nothing was written around the slice.
+    fn unchanged_around(&self) -> bool {
+        let end = self.start + self.length;
+        self.all[..self.start] == self.before[..self.start] && self.all[end..] == self.before[end..]
+    }
+
+    fn slice(&self) -> &[u8] {
+        &self.all[self.start..self.start + self.length]
+    }
+}
+
+/// Calls both functions, each on slices between canaries.
+pub fn answers_of(functions: &Functions, case: &Case) -> Answers {
+    let mut spoiled = Vec::new();
+    let mut list = Guarded::of(&case.list, case.shift);
+    let check = unsafe { (functions.check)(list.pointer(), list.length) };
+    if !list.unchanged() {
+        spoiled.push("list of check");
+    }
+    let mut list = Guarded::of(&case.list, case.shift);
+    let mut library = Guarded::of(&case.library, case.shift);
+    let fill: Vec<u8> = (0..case.result).map(filling).collect();
+    let mut result = Guarded::new(&fill, &[], case.shift);
+    let hand_run = unsafe {
+        (functions.hand_run)(
+            list.pointer(),
+            list.length,
+            library.pointer(),
+            library.length,
+            result.pointer(),
+            result.length,
+        )
+    };
+    if !list.unchanged() {
+        spoiled.push("list of hand run");
+    }
+    if !library.unchanged() {
+        spoiled.push("library");
+    }
+    if !result.unchanged_around() {
+        spoiled.push("beside the result");
+    }
+    Answers {
+        check,
+        hand_run,
+        result: result.slice().to_vec(),
+        spoiled,
+    }
+}
+
+/// What the second implementation gives.
+pub fn answers_of_second(case: &Case) -> Answers {
+    let mut result: Vec<u8> = (0..case.result).map(filling).collect();
+    let hand_run = preview_hand_run(&case.list.bytes, &case.library.bytes, &mut result);
+    Answers {
+        check: preview_check(&case.list.bytes),
+        hand_run,
+        result,
+        spoiled: Vec::new(),
+    }
+}
+
+// ---------------------------------------------------------------------------------------------
+// Cases
+
+fn whole(bytes: Vec<u8>) -> Lent {
+    Lent {
+        bytes,
+        behind: Vec::new(),
+    }
+}
+
+/// The bytes cut at this length; what was cut off stands behind.
+fn cut(bytes: &[u8], length: usize) -> Lent {
+    Lent {
+        bytes: bytes[..length].to_vec(),
+        behind: bytes[length..].to_vec(),
+    }
+}
+
+/// The list cut at each length, then with each byte altered.
+fn cut_and_altered(mut rng: Rng, bytes: Vec<u8>) -> impl Iterator<Item = Lent> {
+    let altered = alterations(&mut rng, &bytes);
+    (0..bytes.len())
+        .map(move |length| cut(&bytes, length))
+        .chain(altered.into_iter().map(whole))
+}
+
+/// P with each byte made each other value.
+fn all_alterations_of_p() -> impl Iterator<Item = Lent> {
+    (0..EXAMPLE_P.len()).flat_map(|place| {
+        (1..=255).map(move |change| {
+            let mut bytes = EXAMPLE_P.to_vec();
+            bytes[place] ^= change;
+            whole(bytes)
+        })
+    })
+}
+
+/// Lists without end: some for each answer, then P altered in every way, then some lists cut and
+/// altered at each place, the longest among them, then random ones, valid and damaged.
+pub fn lists(seed: u64) -> impl Iterator<Item = Lent> {
+    let mut rng = Rng::new(seed);
+    let mut lists = Vec::new();
+    for i in 0..240 {
+        lists.push(whole(match i % 12 {
+            0 => rng.pick(&[&EXAMPLE_P[..], &deepest_list()]).to_vec(),
+            refusal @ 1..=7 => damaged_list(&mut rng, refusal),
+            _ => encode(&random_list(&mut rng)),
+        }));
+    }
+    let mut bases = vec![
+        EXAMPLE_P.to_vec(),
+        deepest_list(),
+        longest_list(),
+        encode(&too_many_tasks(&mut rng)),
+    ];
+    while bases.len() < 24 {
+        let bytes = encode(&random_list(&mut rng));
+        if bytes.len() < 400 {
+            bases.push(bytes);
+        }
+    }
+    let mut own = rng.clone();
+    let at_each_place = bases.into_iter().flat_map(move |bytes| {
+        let seed = own.next_u64();
+        cut_and_altered(Rng::new(seed), bytes)
+    });
+    let random = std::iter::repeat_with(move || {
+        if rng.percent(10) {
+            let bytes = encode(&random_list(&mut rng));
+            cut(&bytes, rng.below(bytes.len()))
+        } else {
+            whole(list_case(&mut rng))
+        }
+    });
+    lists
+        .into_iter()
+        .chain(all_alterations_of_p())
+        .chain(at_each_place)
+        .chain(random)
+}
+
+/// A library and a result slice for the list: mostly those that fit.
+fn case_of(rng: &mut Rng, list: Lent) -> Case {
+    let entries = match decode_records(&list.bytes) {
+        Ok(list) => list.locations,
+        Err(_) => list.bytes.get(2).map_or(1, |byte| *byte as usize % 65),
+    };
+    let full = library_bytes(&random_library(rng, entries + 3));
+    let fitting = 4 * entries;
+    let length = match rng.below(20) {
+        0 => rng.below(fitting + 1),
+        1 => fitting.saturating_sub(1),
+        2 => fitting + rng.between(1, 12),
+        3 => rng.pick(&[0, 1, 4, 256]).min(full.len()),
+        _ => fitting,
+    };
+    let mut library = cut(&full, length);
+    if rng.percent(50) {
+        library.behind.clear();
+    }
+    let result = match rng.below(20) {
+        0 => rng.below(fitting + 1),
+        1 => fitting.saturating_sub(1),
+        2 => fitting.saturating_sub(4),
+        3 => 0,
+        4 => fitting + 1,
+        5 => fitting + rng.below(60),
+        6 => 256,
+        _ => fitting,
+    };
+    Case {
+        list,
+        library,
+        result,
+        shift: rng.below(8),
+    }
+}
+
+// ---------------------------------------------------------------------------------------------
+// The comparison
+
+/// How often each answer was met, acceptance at 0.
+#[derive(Clone, Debug, Default)]
+pub struct Met {
+    pub lists: usize,
+    pub check: [u64; 18],
+    pub hand_run: [u64; 18],
+    /// On how many the two differ, and the smallest case found.
+    pub different: usize,
+    pub smallest: Option<Case>,
+}
+
+impl Met {
+    fn count(&mut self, answers: &Answers) {
+        self.lists += 1;
+        self.check[answers.check.saturating_sub(128) as usize] += 1;
+        self.hand_run[answers.hand_run.saturating_sub(128) as usize] += 1;
+    }
+
+    /// The refusals that were not met: 1 to 7 by check and hand run, 8 and 17 by the hand run.
+    pub fn missing(&self) -> Vec<usize> {
+        (1..18)
+            .filter(|refusal| match refusal {
+                1..=7 => self.check[*refusal] == 0 || self.hand_run[*refusal] == 0,
+                8 | 17 => self.hand_run[*refusal] == 0,
+                _ => false,
+            })
+            .collect()
+    }
+
+    pub fn words(&self) -> String {
+        format!(
+            "check accepts {}, refuses {}; the hand run accepts {}, refuses {}",
+            self.check[0],
+            refusal_words_of(&self.check),
+            self.hand_run[0],
+            refusal_words_of(&self.hand_run)
+        )
+    }
+}
+
+/// Acceptance is no refusal.
+fn refusal_words_of(counts: &[u64; 18]) -> String {
+    let mut counts = *counts;
+    counts[0] = 0;
+    refusal_words(&counts)
+}
+
+/// Compares `count` lists.
+pub fn compare(functions: &Functions, count: usize, seed: u64) -> Met {
+    let mut rng = Rng::new(!seed);
+    let mut met = Met::default();
+    for list in lists(seed).take(count) {
+        let case = case_of(&mut rng, list);
+        let expected = answers_of_second(&case);
+        met.count(&expected);
+        if answers_of(functions, &case) != expected {
+            met.different += 1;
+            let smallest = met.smallest.as_ref();
+            if smallest.is_none_or(|other| size(&case) < size(other)) {
+                met.smallest = Some(case);
+            }
+        }
+    }
+    let differ = |case: &Case| answers_of(functions, case) != answers_of_second(case);
+    let smallest = met.smallest.take();
+    met.smallest = smallest.map(|case| shrink(case, SHRINK_TIME, smaller_cases, differ));
+    met
+}
+
+/// How long smaller cases are looked for.
+const SHRINK_TIME: Duration = Duration::from_secs(20);
+
+fn size(case: &Case) -> usize {
+    case.list.bytes.len() + case.library.bytes.len() + case.result
+}
+
+/// Cases with less behind the slices, a smaller list, a smaller library or a shorter result.
+fn smaller_cases(case: &Case) -> impl Iterator<Item = Case> {
+    let mut plain = Vec::new();
+    if !case.list.behind.is_empty() {
+        let mut smaller = case.clone();
+        smaller.list.behind.clear();
+        plain.push(smaller);
+    }
+    if !case.library.behind.is_empty() {
+        let mut smaller = case.clone();
+        smaller.library.behind.clear();
+        plain.push(smaller);
+    }
+    if case.shift > 0 {
+        plain.push(Case {
+            shift: 0,
+            ..case.clone()
+        });
+    }
+    if let Some(list) = less_entries(&case.list.bytes) {
+        let mut smaller = case.clone();
+        smaller.list.bytes = list;
+        let length = smaller.library.bytes.len().saturating_sub(4);
+        smaller.library.bytes.truncate(length);
+        plain.push(smaller.clone());
+        smaller.result = smaller.result.saturating_sub(4);
+        plain.push(smaller);
+    }
+    let (lists, libraries, results) = (case.clone(), case.clone(), case.clone());
+    plain
+        .into_iter()
+        .chain(smaller_lists(&case.list.bytes).map(move |bytes| {
+            let mut smaller = lists.clone();
+            smaller.list.bytes = bytes;
+            smaller
+        }))
+        .chain(smaller_bytes(&case.library.bytes, 1).map(move |bytes| {
+            let mut smaller = libraries.clone();
+            smaller.library.bytes = bytes;
+            smaller
+        }))
+        .chain((0..case.result).map(move |result| Case {
+            result,
+            ..results.clone()
+        }))
+}
+
+/// The case and both answers, in lines.
+pub fn describe(functions: &Functions, case: &Case) -> String {
+    let ours = answers_of(functions, case);
+    let second = answers_of_second(case);
+    let mut text = format!("list {}\n", hex(&case.list.bytes));
+    if !case.list.behind.is_empty() {
+        text.push_str(&format!("behind it {}\n", hex(&case.list.behind)));
+    }
+    text.push_str(&format!("library {}\n", hex(&case.library.bytes)));
+    if !case.library.behind.is_empty() {
+        text.push_str(&format!("behind it {}\n", hex(&case.library.behind)));
+    }
+    text.push_str(&format!(
+        "result slice of {} bytes, slices {} bytes from an even place\n",
+        case.result, case.shift
+    ));
+    for (name, answers) in [("preview", &ours), ("second", &second)] {
+        text.push_str(&format!(
+            "{name}: check {}, hand run {}, result {}",
+            answers.check,
+            answers.hand_run,
+            hex(&answers.result)
+        ));
+        if !answers.spoiled.is_empty() {
+            text.push_str(&format!(", spoiled: {}", answers.spoiled.join(", ")));
+        }
+        text.push('\n');
+    }
+    text
+}
+
+#[cfg(test)]
+mod tests {
+    use super::*;
+
+    unsafe fn slice<'a>(pointer: *const u8, length: usize) -> &'a [u8] {
+        std::slice::from_raw_parts(pointer, length)
+    }
+
+    unsafe extern "C" fn check(list: *const u8, list_len: usize) -> u32 {
+        preview_check(slice(list, list_len))
+    }
+
+    unsafe extern "C" fn hand_run(
+        list: *const u8,
+        list_len: usize,
+        library: *const u8,
+        library_len: usize,
+        result: *mut u8,
+        result_len: usize,
+    ) -> u32 {
+        let result = std::slice::from_raw_parts_mut(result, result_len);
+        preview_hand_run(slice(list, list_len), slice(library, library_len), result)
+    }
+
+    /// Takes one byte more than it was lent, where the list is cut.
+    unsafe extern "C" fn check_reads_on(list: *const u8, list_len: usize) -> u32 {
+        match check(list, list_len) {
+            129 if check(list, list_len + 1) <= 128 => check(list, list_len + 1),
+            answer => answer,
+        }
+    }
+
+    unsafe extern "C" fn check_accepts_129_jobs(list: *const u8, list_len: usize) -> u32 {
+        match check(list, list_len) {
+            135 => 128,
+            answer => answer,
+        }
+    }
+
+    unsafe extern "C" fn check_writes(list: *const u8, list_len: usize) -> u32 {
+        if list_len > 30 {
+            *(list as *mut u8).add(20) ^= 1;
+        }
+        check(list, list_len)
+    }
+
+    /// Hand runs that do something wrong behind the right one.
+    macro_rules! wrong_hand_run {
+        ($name:ident, |$list:ident, $library:ident, $result:ident, $length:ident, $answer:ident| $wrong:expr) => {
+            unsafe extern "C" fn $name(
+                $list: *const u8,
+                list_len: usize,
+                $library: *const u8,
+                library_len: usize,
+                $result: *mut u8,
+                $length: usize,
+            ) -> u32 {
+                let $answer = hand_run($list, list_len, $library, library_len, $result, $length);
+                $wrong
+            }
+        };
+    }
+
+    wrong_hand_run!(writes_behind, |_list, _library, result, length, answer| {
+        if answer == 0 {
+            *result.add(length) = 0;
+        }
+        answer
+    });
+    wrong_hand_run!(writes_before, |_list, library, _result, _length, answer| {
+        *(library as *mut u8).sub(1) = 1;
+        answer
+    });
+    wrong_hand_run!(writes_more, |list, _library, result, length, answer| {
+        let named = 4 * *list.add(2) as usize;
+        if answer == 0 && length > named {
+            *result.add(named) = 1;
+        }
+        answer
+    });
+    wrong_hand_run!(
+        writes_on_refusal,
+        |_list, _library, result, length, answer| {
+            if answer == 145 && length > 0 {
+                *result = 1;
+            }
+            answer
+        }
+    );
+    wrong_hand_run!(wrong_entry, |_list, _library, result, _length, answer| {
+        if answer == 0 && *result == 9 {
+            *result = 8;
+        }
+        answer
+    });
+    wrong_hand_run!(no_17, |_list, _library, _result, _length, answer| {
+        if answer == 145 {
+            0
+        } else {
+            answer
+        }
+    });
+
+    #[test]
+    fn the_second_implementation_agrees_with_itself() {
+        let met = compare(&Functions { check, hand_run }, 3000, 1);
+        assert_eq!((met.lists, met.different), (3000, 0));
+        assert!(met.missing().is_empty(), "{}", met.words());
+        assert!(met.check[0] > 100 && met.hand_run[0] > 100);
+    }
+
+    #[test]
+    fn mismatches_are_found_and_made_small() {
+        let with_check = |check: Check| Functions { check, hand_run };
+        let with_hand_run = |hand_run: HandRun| Functions { check, hand_run };
+        for (functions, most, words) in [
+            (with_check(check_accepts_129_jobs), 100, "check 128, "),
+            (with_check(check_writes), 31, "spoiled: list of check"),
+            (
+                with_hand_run(writes_behind),
+                16,
+                "spoiled: beside the result",
+            ),
+            (with_hand_run(writes_before), 0, "spoiled: library"),
+            (with_hand_run(writes_more), 17, "hand run 0"),
+            (with_hand_run(writes_on_refusal), 13, "hand run 145"),
+            (with_hand_run(wrong_entry), 36, "result 08"),
+            (with_hand_run(no_17), 12, "hand run 145"),
+        ] {
+            let met = compare(&functions, 1000, 1);
+            let case = met.smallest.unwrap();
+            let text = describe(&functions, &case);
+            assert!(met.different > 0 && size(&case) <= most, "{text}");
+            assert!(text.contains(words), "{text}");
+        }
+        // Lists that are cut by one byte, with it behind them, come later.
+        let met = compare(&with_check(check_reads_on), 15_000, 1);
+        assert!(met.different > 0);
+    }
+}

@@ -1,0 +1,550 @@
+//! The stored cases: those of "Publishing examples" and single sentences, then random ones.
+
+use crate::case_file::Case;
+use crate::cases::{
+    any_call, doubling_list, list_case, next_call, random_library, random_list, sensible_call,
+    Strategy, EXAMPLE_P, STRATEGIES,
+};
+use crate::coordinator::call;
+use crate::list::{encode, task_count, Instruction, Line, TaskList};
+use crate::rng::Rng;
+use crate::run::open;
+
+/// The stored file of cases is made with these.
+pub const STORED_SEED: u64 = 1;
+pub const STORED_COUNT: usize = 52;
+
+/// P's library.
+pub const LIBRARY_P: [u32; 2] = [5, 7];
+
+pub fn spawn(body: u8, footprint: u8) -> Instruction {
+    Instruction::Spawn { body, footprint }
+}
+
+pub fn constant(a: u8, value: u16) -> Instruction {
+    Instruction::Const { a, value }
+}
+
+pub fn read_line(value: u8) -> Line {
+    Line { kind: 0, value }
+}
+
+pub fn write_line(value: u8) -> Line {
+    Line { kind: 1, value }
+}
+
+/// The bytes of a list with these parts.
+pub fn list(locations: usize, footprints: &[&[Line]], bodies: &[&[Instruction]]) -> Vec<u8> {
+    encode(&TaskList {
+        locations,
+        footprints: footprints.iter().map(|lines| lines.to_vec()).collect(),
+        bodies: bodies.iter().map(|body| body.to_vec()).collect(),
+    })
+}
+
+/// Calls in words: `start 0, step 0`.
+fn calls(text: &str) -> Vec<(u8, u32)> {
+    text.split(", ")
+        .filter(|words| !words.is_empty())
+        .map(|words| {
+            let (kind, task) = words.split_once(' ').expect("a kind and a job");
+            let kind = ["start", "step", "end"].iter().position(|k| *k == kind);
+            (
+                kind.expect("a kind") as u8,
+                task.parse().expect("a job's number"),
+            )
+        })
+        .collect()
+}
+
+fn case(list: &[u8], library: &[u32], text: &str) -> Case {
+    Case {
+        list: list.to_vec(),
+        library: library.to_vec(),
+        calls: calls(text),
+    }
+}
+
+/// The calls of the hand run, and then one more.
+fn whole(list: &[u8], library: &[u32]) -> Case {
+    let mut case = case(list, library, "");
+    let mut run = open(list, library).expect("an accepted list with its library");
+    let mut rng = Rng::new(0);
+    while let Some((kind, task)) = sensible_call(&mut rng, Strategy::Front, &run, 0) {
+        case.calls.push((kind, task));
+        call(&mut run, kind, task).expect("a sensible call");
+    }
+    case.calls.push((0, 0));
+    case
+}
+
+/// All the named cases.
+pub fn named_cases() -> Vec<Case> {
+    let mut cases = Vec::new();
+    cases.extend(orders_of_p());
+    cases.extend(readers_and_writers());
+    cases.extend(faults());
+    cases.extend(large_numbers());
+    cases.extend(trees());
+    cases.extend(refused_lists());
+    cases
+}
+
+/// P: the hand run's calls up to each length, then other orders.
+fn orders_of_p() -> Vec<Case> {
+    let mut cases = Vec::new();
+    let by_hand = calls(
+        "start 0, step 0, start 1, step 1, step 1, end 1, step 0, start 2, step 2, step 2, step 2, \
+         end 2, end 0",
+    );
+    for length in 0..=by_hand.len() {
+        let mut prefix = case(&EXAMPLE_P, &LIBRARY_P, "");
+        prefix.calls = by_hand[..length].to_vec();
+        cases.push(prefix);
+    }
+    for text in [
+        "start 0, step 0, step 0",
+        "start 0, step 0, step 0, start 2, start 1, end 0",
+        // The spawner ends first.
+        "start 0, step 0, step 0, start 2, start 1, end 0, step 1, start 2, step 1, end 1, start 2, \
+         step 2, step 2, step 2, end 2, start 0",
+        // Refused calls of each number between the accepted ones.
+        "step 0, end 0, start 1, start 128, step 127, start 0, start 0, end 0, step 0, step 0, \
+         step 0, end 1, start 2, step 2, start 1, step 1, step 1, step 1, start 2, end 1, end 1, \
+         start 2, step 2, end 2, step 2, step 2, end 2, step 0, end 0, end 0, step 0, start 0",
+        // Job numbers at and beyond the table.
+        "start 127, step 127, end 127, start 128, step 128, end 128, start 255, start 256, \
+         step 65536, end 2147483648, start 4294967168, start 4294967295, step 4294967295, \
+         end 4294967295, start 0, step 256, step 0, step 128, end 4294967295",
+    ] {
+        cases.push(case(&EXAMPLE_P, &LIBRARY_P, text));
+    }
+    // A library that doesn't fit.
+    for library in [&[][..], &[5], &[5, 7, 9]] {
+        cases.push(case(&EXAMPLE_P, library, "start 0"));
+    }
+    cases
+}
+
+fn readers_and_writers() -> Vec<Case> {
+    let load = Instruction::Load { a: 1, b: 0 };
+    let store = Instruction::Store { a: 0, b: 1 };
+    let wait = Instruction::Wait { a: 0 };
+    // Two children of job 0 reading one entry; job 0 loads it, then stores to it.
+    let two_readers = list(
+        1,
+        &[&[read_line(0)]],
+        &[&[spawn(1, 0), spawn(1, 0), load, store], &[load]],
+    );
+    // A writer between readers.
+    let writer_between = list(
+        1,
+        &[&[read_line(0)], &[write_line(0)]],
+        &[&[spawn(1, 0), spawn(2, 1), spawn(1, 0)], &[load], &[store]],
+    );
+    // A job of mode write waits for the reader ahead, a job of mode read doesn't.
+    let waits = list(
+        1,
+        &[&[read_line(0)]],
+        &[
+            &[spawn(1, 0), spawn(2, 0), wait],
+            &[],
+            &[wait, constant(0, 1), wait],
+        ],
+    );
+    // A grandchild stands ahead of its spawner's later sibling.
+    let nested = list(
+        2,
+        &[&[write_line(0), read_line(1)], &[read_line(0)], &[]],
+        &[
+            &[spawn(1, 0), spawn(2, 0), load],
+            &[spawn(2, 1), load, spawn(2, 2), store],
+            &[load, constant(3, 7)],
+        ],
+    );
+    let mut cases = vec![
+        case(
+            &two_readers,
+            &[5],
+            "start 0, step 0, step 0, start 2, start 1, step 0, step 0",
+        ),
+        case(
+            &two_readers,
+            &[5],
+            "start 0, step 0, step 0, start 1, step 0, start 2, step 0, step 1, end 1, step 0, \
+             step 2, end 2, step 0, end 0",
+        ),
+        case(
+            &writer_between,
+            &[5],
+            "start 0, step 0, step 0, step 0, start 3, start 2, start 1, step 1, start 2, start 3, \
+             end 1, start 3, start 2, step 2, start 3, end 2, start 3, step 3, end 3, end 0",
+        ),
+        case(
+            &waits,
+            &[5],
+            "start 0, step 0, step 0, step 0, start 2, step 2, step 2, step 2, step 2, step 0, \
+             start 1, end 1, step 0, end 2, step 0, end 0",
+        ),
+        case(
+            &nested,
+            &[5, 7],
+            "start 0, step 0, step 0, start 1, step 1, step 1, start 4, step 1, step 1, start 3, \
+             start 2, step 2, step 1, end 2, end 2, step 2, end 2, step 1, end 1, start 4, end 3",
+        ),
+    ];
+    cases.push(whole(&nested, &[5, 7]));
+    cases
+}
+
+fn faults() -> Vec<Case> {
+    let mut cases = Vec::new();
+    let load = Instruction::Load { a: 1, b: 0 };
+    let store = Instruction::Store { a: 0, b: 1 };
+    let wait = Instruction::Wait { a: 0 };
+    // Store to a read entry, job 2 behind another reader.
+    let store_to_read = list(
+        1,
+        &[&[read_line(0)]],
+        &[&[spawn(1, 0), spawn(1, 0)], &[constant(1, 9), store]],
+    );
+    cases.push(case(
+        &store_to_read,
+        &[5],
+        "start 0, step 0, step 0, start 2, step 2, step 2, step 2, end 2, end 2",
+    ));
+    cases.push(whole(&store_to_read, &[5]));
+    // Load, store and wait at C and above.
+    for number in [2, 63, 64, 65535] {
+        for instruction in [load, store, wait] {
+            let bytes = list(2, &[], &[&[constant(0, number), instruction, load]]);
+            cases.push(whole(&bytes, &LIBRARY_P));
+        }
+    }
+    // An entry that others hold, not in the job's footprint.
+    for instruction in [load, store, wait] {
+        let bytes = list(
+            1,
+            &[&[write_line(0)], &[]],
+            &[&[spawn(1, 0), spawn(2, 1)], &[], &[instruction]],
+        );
+        cases.push(case(
+            &bytes,
+            &[5],
+            "start 0, step 0, step 0, start 1, start 2, step 2, end 2",
+        ));
+    }
+    // An entry named twice.
+    for lines in [
+        [read_line(0), read_line(0)],
+        [read_line(0), write_line(0)],
+        [write_line(0), read_line(0)],
+        [write_line(0), write_line(0)],
+    ] {
+        let bytes = list(2, &[&lines], &[&[spawn(1, 0), constant(0, 1)], &[]]);
+        cases.push(case(
+            &bytes,
+            &LIBRARY_P,
+            "start 0, step 0, start 1, step 0, end 0",
+        ));
+    }
+    // Lines in turn; the spawner's own mode is read at 0, none at 1.
+    let by_register = Line { kind: 2, value: 0 };
+    let lines: [&[Line]; 5] = [
+        &[read_line(0), write_line(0)],
+        &[read_line(0), read_line(0), read_line(1)],
+        &[read_line(1), write_line(0)],
+        &[read_line(0), by_register],
+        &[by_register],
+    ];
+    for lines in lines {
+        let bytes = list(
+            2,
+            &[&[read_line(0)], lines],
+            &[&[spawn(1, 0)], &[spawn(2, 1)], &[]],
+        );
+        cases.push(whole(&bytes, &LIBRARY_P));
+    }
+    cases
+}
+
+/// Registers that hold numbers far above C.
+fn large_numbers() -> Vec<Case> {
+    let mut cases = Vec::new();
+    let load = |a, b| Instruction::Load { a, b };
+    let uses = [
+        load(2, 1),
+        Instruction::Store { a: 1, b: 0 },
+        Instruction::Wait { a: 1 },
+        spawn(1, 0),
+        spawn(1, 1),
+    ];
+    let lines = [Line { kind: 2, value: 1 }, Line { kind: 3, value: 1 }];
+    // 2^32 - 1 by a difference; a register line that names it.
+    for instruction in uses {
+        let difference = Instruction::Sub { a: 1, b: 0, c: 1 };
+        let bytes = list(
+            2,
+            &[&lines[..1], &lines[1..]],
+            &[&[constant(1, 1), difference, instruction], &[]],
+        );
+        cases.push(whole(&bytes, &LIBRARY_P));
+    }
+    // The entry's number from the library: 1 is in the footprint, the others are not.
+    for number in [1, 2, 64, 256, 257, 65536, 0x8000_0000, u32::MAX] {
+        for instruction in [uses[0], uses[4]] {
+            let bytes = list(
+                2,
+                &[&lines[..1], &lines[1..]],
+                &[&[load(1, 0), instruction], &[]],
+            );
+            cases.push(whole(&bytes, &[number, 7]));
+        }
+    }
+    // Sums and differences modulo 2^32, unsigned order.
+    let bytes = list(
+        2,
+        &[],
+        &[&[
+            load(1, 0),
+            constant(2, 1),
+            load(2, 2),
+            Instruction::Add { a: 3, b: 1, c: 2 },
+            Instruction::Sub { a: 0, b: 2, c: 1 },
+            Instruction::Less { a: 1, b: 1, c: 2 },
+            Instruction::Less { a: 2, b: 0, c: 3 },
+        ]],
+    );
+    cases.push(whole(&bytes, &[u32::MAX, 2]));
+    cases.push(whole(&bytes, &[0x7FFF_FFFF, 0x8000_0000]));
+    cases
+}
+
+fn trees() -> Vec<Case> {
+    let empty_body = list(1, &[], &[&[]]);
+    let mut cases = vec![
+        case(&empty_body, &[5], "start 0, end 0"),
+        case(
+            &empty_body,
+            &[5],
+            "step 0, end 0, start 0, start 0, step 0, end 0, start 0, step 0, end 0, end 128",
+        ),
+    ];
+    // 127 jobs, 128, and 129, which is refused.
+    for more in 0..3 {
+        cases.push(case(
+            &encode(&doubling_list(more)),
+            &[0],
+            "start 0, step 0, step 0, start 64, step 64, start 1, step 0, start 127, end 0",
+        ));
+    }
+    // Spawns that are passed over keep their numbers.
+    let passed_over = list(
+        1,
+        &[&[]],
+        &[
+            &[Instruction::Skip { a: 0, b: 1 }, spawn(1, 0), spawn(1, 0)],
+            &[spawn(2, 0)],
+            &[],
+        ],
+    );
+    cases.push(case(
+        &passed_over,
+        &[5],
+        "start 0, step 0, step 0, start 1, start 3, step 3, start 4",
+    ));
+    cases.push(whole(&passed_over, &[5]));
+    cases.push(queue_of_128());
+    cases.push(case(
+        &deepest_list(),
+        &[5],
+        "start 0, step 0, start 1, step 1, start 0, start 2, end 0",
+    ));
+    let library: Vec<u32> = (0..64).map(|entry| 1000 + entry).collect();
+    cases.push(case(
+        &longest_list(),
+        &library,
+        "start 0, step 0, step 0, step 0, step 0, start 1, start 2, step 2, step 1, step 0, step 0, \
+         start 3, end 3",
+    ));
+    cases
+}
+
+/// All of 128 jobs in one queue: four children of 30 children each, and three more.
+fn queue_of_128() -> Case {
+    let children = [spawn(2, 0); 30];
+    let mut root = vec![spawn(1, 0); 4];
+    root.extend([spawn(2, 0); 3]);
+    let bytes = list(1, &[&[read_line(0)]], &[&root, &children, &[]]);
+    let mut case = case(&bytes, &[5], "start 0");
+    case.calls.extend([(1, 0); 7]);
+    for child in 0..4 {
+        let number = 1 + 31 * child;
+        case.calls.push((0, number));
+        case.calls.extend([(1, number); 30]);
+    }
+    case.calls.extend([(0, 127), (0, 2), (2, 1), (2, 0)]);
+    case
+}
+
+/// 4,805 bytes; sheet 0 spawns the last only, the sheets between have counts beyond any machine word.
+pub fn longest_list() -> Vec<u8> {
+    let mut footprints = Vec::new();
+    for f in 0..32u8 {
+        let line = |i| Line {
+            kind: (f + i) % 2,
+            value: (8 * f + i) % 64,
+        };
+        footprints.push((0..8).map(line).collect::<Vec<Line>>());
+    }
+    let mut bodies = vec![Vec::new()];
+    for i in 0..16 {
+        bodies[0].push(constant(i % 4, 8 * i as u16));
+        bodies[0].push(spawn(31, i));
+    }
+    for s in 1..31 {
+        bodies.push(vec![spawn(s + 1, s); 32]);
+    }
+    let load = Instruction::Load { a: 1, b: 0 };
+    let store = Instruction::Store { a: 0, b: 1 };
+    bodies.push([load, store].repeat(16));
+    encode(&TaskList {
+        locations: 64,
+        footprints,
+        bodies,
+    })
+}
+
+/// 32 sheets, each but the last spawning the next, which writes too: the deepest tree.
+pub fn deepest_list() -> Vec<u8> {
+    let mut bodies: Vec<Vec<Instruction>> = (1..32).map(|next| vec![spawn(next, 0)]).collect();
+    bodies.push(vec![constant(1, 9), Instruction::Store { a: 0, b: 1 }]);
+    encode(&TaskList {
+        locations: 1,
+        footprints: vec![vec![write_line(0)]],
+        bodies,
+    })
+}
+
+fn refused_lists() -> Vec<Case> {
+    let head = |locations| vec![0x4A, 0x48, locations, 0, 1, 0x4A, 0x42, 0];
+    let mut cases = vec![
+        case(&[], &[], "start 0"),
+        case(&[], &[5], ""),
+        // 6 before 7, and both before 8.
+        case(&[&encode(&doubling_list(2))[..], &[0]].concat(), &[], ""),
+        case(&[&EXAMPLE_P[..], &[0x4A]].concat(), &LIBRARY_P, ""),
+        case(&EXAMPLE_P[..53], &[], ""),
+        case(&[0x4B], &[], ""),
+        case(&[0x4B, 0x48], &[], ""),
+        case(&[0x4A, 0x48, 65], &[], ""),
+    ];
+    for locations in [0, 1, 64, 65, 255] {
+        let library = vec![3; locations as usize];
+        cases.push(case(&head(locations), &library, "start 0, end 0"));
+    }
+    cases.push(case(&head(64), &[3; 65], ""));
+    // Footprint counts and lines: at the limit, and beyond it.
+    let footprint = |bytes: &[u8]| {
+        let start = [0x4A, 0x48, 2, 1, 1, 0x4A, 0x46];
+        [&start[..], bytes, &[0x4A, 0x42, 0]].concat()
+    };
+    let sheet = |bytes: &[u8]| {
+        let start = [0x4A, 0x48, 2, 1, 2, 0x4A, 0x46, 0, 0x4A, 0x42];
+        [&start[..], bytes, &[0x4A, 0x42, 0]].concat()
+    };
+    let counts = [[8].as_slice(), &[0; 16]].concat();
+    cases.push(case(&footprint(&counts), &LIBRARY_P, ""));
+    let counts = [[9].as_slice(), &[0; 18]].concat();
+    cases.push(case(&footprint(&counts), &LIBRARY_P, ""));
+    for line in [[0, 1], [0, 2], [1, 2], [2, 3], [2, 4], [3, 4], [4, 0]] {
+        cases.push(case(&footprint(&[1, line[0], line[1]]), &LIBRARY_P, ""));
+    }
+    // Sheet counts and instructions, likewise.
+    for count in [32, 33] {
+        let counts = [&[count][..], &vec![0; 4 * count as usize]].concat();
+        cases.push(case(&sheet(&counts), &LIBRARY_P, ""));
+    }
+    for instruction in [
+        [0, 4, 0, 0],
+        [1, 0, 4, 0],
+        [3, 0, 0, 4],
+        [4, 0, 0, 1],
+        [6, 0, 0, 1],
+        [7, 0, 0, 0],
+        [7, 1, 0, 0],
+        [7, 2, 0, 0],
+        [7, 1, 1, 0],
+        [7, 1, 0, 1],
+        [8, 0, 1, 0],
+        [9, 0, 0, 0],
+    ] {
+        let bytes = [&[1][..], &instruction].concat();
+        cases.push(case(&sheet(&bytes), &LIBRARY_P, ""));
+    }
+    // Skips to the sheet's end and beyond, and of nothing.
+    for b in [0, 1, 2, 3, 255] {
+        let skip = Instruction::Skip { a: 0, b };
+        let bytes = list(
+            1,
+            &[],
+            &[&[constant(1, 1), skip, Instruction::Skip { a: 1, b: 1 }, skip]],
+        );
+        cases.push(case(&bytes, &[5], ""));
+        let bytes = list(1, &[], &[&[constant(1, 1), skip, constant(2, 2)]]);
+        cases.push(case(&bytes, &[5], "start 0, step 0, step 0, step 0, end 0"));
+    }
+    cases
+}
+
+/// A random case for the stored file: mostly small, calls accepted and refused, often to the end.
+pub fn random_case(rng: &mut Rng) -> Case {
+    let most_bytes = if rng.percent(10) { 700 } else { 250 };
+    let most_tasks = if rng.percent(10) { 60 } else { 20 };
+    let list = loop {
+        let list = random_list(rng);
+        let size = encode(&list).len();
+        if size <= most_bytes && task_count(&list, 0) <= most_tasks && list.locations <= 16 {
+            break list;
+        }
+    };
+    let mut case = Case {
+        list: encode(&list),
+        library: random_library(rng, list.locations),
+        calls: Vec::new(),
+    };
+    if rng.percent(4) {
+        while case.list.len() > most_bytes || open(&case.list, &case.library).is_ok() {
+            case.list = list_case(rng);
+        }
+    }
+    let mut run = match open(&case.list, &case.library) {
+        Ok(run) => run,
+        Err(_) => return case,
+    };
+    let strategy = rng.pick(&STRATEGIES);
+    let any_percent = rng.pick(&[0, 20, 50]);
+    let most_calls = if rng.percent(30) { rng.below(30) } else { 150 };
+    let mut last = 0;
+    while case.calls.len() < most_calls && !run.order.is_empty() {
+        let (kind, task) = next_call(rng, strategy, &run, last, any_percent);
+        case.calls.push((kind, task));
+        if call(&mut run, kind, task).is_ok() {
+            last = task;
+        }
+    }
+    if rng.percent(20) {
+        case.calls.push(any_call(rng, &run));
+    }
+    case
+}
+
+/// The named cases, then `count` random ones.
+pub fn stored_cases(seed: u64, count: usize) -> Vec<Case> {
+    let mut rng = Rng::new(seed);
+    let mut cases = named_cases();
+    for _ in 0..count {
+        cases.push(random_case(&mut rng));
+    }
+    cases
+}

@@ -4,12 +4,12 @@ ghost use mathlib.Core.Path.{_≡_};
 ghost use lib.ListN.{getD};
 ghost use Rattle.explain.specs.Jobs.{first-job, made, holder, numbered};
 use crate::Job;
-use tasklist::Instruction;
-use tasklist::Tables;
-use tasklist::added;
 use listing::body_size;
 use listing::instruction_at;
 use listing::task_count;
+use tasklist::Instruction;
+use tasklist::Tables;
+use tasklist::added;
 
 fn wide(x: u8) -> usize
     ensures { λ r. ⌜ (r ≡ x) × (r < 256) ⌝ }

@@ -6,13 +6,13 @@ use crate::words::say;
 use crate::words::say_instruction;
 use crate::words::say_line;
 use crate::words::say_with;
-use tasklist::Tables;
 use listing::body_count;
 use listing::body_size;
 use listing::footprint_count;
 use listing::footprint_size;
 use listing::instruction_at;
 use listing::line_at;
+use tasklist::Tables;
 
 // A footprint, its lines behind commas.
 fn print_footprint(tables: Tables, f: usize) {

@@ -6,8 +6,6 @@ use lib.ListN.{length}
 use borrow.Author.Needs.{needs}
 use Rattle.explain.proofs.is_help.Statement.{statement}
 use Rattle.explain.proofs.is_help.Tie as tie
-use Rattle.explain.proofs.is_help.Reads as reads
-use Rattle.explain.proofs.is_help.Lts as lts
 
 abbrev Inv-loop : tie.InvT-loop
 Inv-loop name help i₀ i = length name ≡ 6

@@ -4,14 +4,6 @@ use Prim.Native.Nat.{_-_}
 use borrow.Author.Needs.{needs}
 use Rattle.explain.proofs.main.Statement.{statement}
 use Rattle.explain.proofs.main.Tie as tie
-use Rattle.explain.proofs.main.Reads as reads
-use Rattle.explain.proofs.main.Lts as lts
-use Rattle.explain.proofs.explain_file.Reads as explain-file-reads
-use Rattle.explain.proofs.is_help.Reads as is-help-reads
-use Rattle.explain.proofs.usage.Reads as usage-reads
-use Rattle.io.proofs.buffer.Reads as buffer-reads
-use Rattle.os.proofs.arg.Reads as arg-reads
-use Rattle.os.proofs.arg_count.Reads as arg-count-reads
 
 abbrev Inv-loop : tie.InvT-loop
 Inv-loop count i₀ i = Unit {0}

@@ -11,19 +11,12 @@ use Rattle.explain.proofs.JobLaws.{Passed, passed-none, passed-next, pa
 use borrow.Author.Needs.{needs}
 use Rattle.explain.proofs.jobs.holder_of.Statement.{statement}
 use Rattle.explain.proofs.jobs.holder_of.Tie as tie
-use Rattle.explain.proofs.jobs.holder_of.Reads as reads
-use Rattle.explain.proofs.jobs.holder_of.Lts as lts
-use Rattle.explain.proofs.jobs.added.Reads as added-reads
-use Rattle.explain.proofs.jobs.made_by.Reads as made-by-reads
-use Rattle.explain.proofs.jobs.wide.Reads as wide-reads
-use Rattle.tasklist.proofs.body_size.Reads as body-size-reads
-use Rattle.tasklist.proofs.instruction_at.Reads as instruction-at-reads
 
 abbrev Inv-loop : tie.InvT-loop
-Inv-loop tables job k depth body size n₀ i₀ n i = (i ≤ size) × (k < 128) × (size ≡ length (body-of (list-of tables) (job .body))) × (size ≤ 32) × Passed tables job k n i
+Inv-loop tables job k depth body size counts n₀ i₀ n i = (i ≤ size) × (k < 128) × (size ≡ length (body-of (list-of tables) (job .body))) × (size ≤ 32) × Passed tables job k n i
 
 abbrev μ-loop : tie.MeasureT-loop
-μ-loop tables job k depth body size n₀ i₀ n i = size - i
+μ-loop tables job k depth body size counts n₀ i₀ n i = size - i
 
 body-size-requires : tie.Need-body-size-requires Inv-loop μ-loop
 body-size-requires c κs = search needs
@@ -33,8 +26,8 @@ add-n c = search needs
 
 loop-holds : tie.Need-loop-holds Inv-loop μ-loop
 loop-holds c =
-    let a = c .before .before .args in
-    let size = c .before .body-size in
+    let a = c .before .before .before .args in
+    let size = c .before .before .body-size in
     (search needs, omega arith, size .ensures, omega (arith, body-most (a .tables) (a .job .body), size .ensures), passed-none (a .tables) (a .job) (a .k) (omega arith))
 
 instruction-at-requires : tie.Need-instruction-at-requires Inv-loop μ-loop
@@ -54,7 +47,7 @@ made-by-requires c κs = search needs
 
 returns : tie.Need-returns Inv-loop μ-loop
 returns c =
-    let a = c .before .before .before .before .before .before .before .before .before .args in
+    let a = c .before .before .before .before .before .before .before .before .before .before .args in
     let at = c .before .before .before .before .before .before .loop in
     let x = c .before .before .before .before .instruction-at in
     let v = c .before .before .wide in
@@ -68,7 +61,7 @@ loop-less c = search needs
 
 loop-again : tie.Need-loop-again Inv-loop μ-loop
 loop-again c =
-    let a = c .before .before .before .before .before .before .before .before .args in
+    let a = c .before .before .before .before .before .before .before .before .before .args in
     let at = c .before .before .before .before .before .loop in
     let x = c .before .before .before .instruction-at in
     let v = c .before .wide in (
@@ -81,7 +74,7 @@ loop-again c =
 
 returns-2 : tie.Need-returns-2 Inv-loop μ-loop
 returns-2 c =
-    let a = c .before .before .before .before .args in
+    let a = c .before .before .before .before .before .args in
     let at = c .before .loop in
     passed-all (a .tables) (a .job) (a .k) (at .n) (at .i) (a .depth) (omega arith) (at .inv .4)
 

@@ -7,10 +7,6 @@ use Rattle.explain.proofs.JobLaws.{Reached, reached-none, reached-below
 use borrow.Author.Needs.{needs}
 use Rattle.explain.proofs.jobs.job_of.Statement.{statement}
 use Rattle.explain.proofs.jobs.job_of.Tie as tie
-use Rattle.explain.proofs.jobs.job_of.Reads as reads
-use Rattle.explain.proofs.jobs.job_of.Lts as lts
-use Rattle.explain.proofs.jobs.first.Reads as first-reads
-use Rattle.explain.proofs.jobs.holder_of.Reads as holder-of-reads
 
 abbrev Inv-loop : tie.InvT-loop
 Inv-loop tables k job₀ depth₀ job depth = (depth ≤ 32) × (k < 128) × Reached tables k depth job

@@ -5,8 +5,6 @@ use Rattle.explain.specs.Jobs.{made}
 use borrow.Author.Needs.{needs}
 use Rattle.explain.proofs.jobs.made_by.Statement.{statement}
 use Rattle.explain.proofs.jobs.made_by.Tie as tie
-use Rattle.explain.proofs.jobs.made_by.Reads as reads
-use Rattle.explain.proofs.jobs.made_by.Lts as lts
 
 enum-told : tie.Need-enum-told
 enum-told c = search needs

@@ -4,9 +4,6 @@ use Prim.Native.Nat.{_-_}
 use borrow.Author.Needs.{needs}
 use Rattle.explain.proofs.list.indent.Statement.{statement}
 use Rattle.explain.proofs.list.indent.Tie as tie
-use Rattle.explain.proofs.list.indent.Reads as reads
-use Rattle.explain.proofs.list.indent.Lts as lts
-use Rattle.explain.proofs.words.say.Reads as say-reads
 
 abbrev Inv-loop : tie.InvT-loop
 Inv-loop depth i₀ t3 i = Unit {0}

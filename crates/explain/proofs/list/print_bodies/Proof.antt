@@ -4,10 +4,6 @@ use Prim.Native.Nat.{_-_}
 use borrow.Author.Needs.{needs}
 use Rattle.explain.proofs.list.print_bodies.Statement.{statement}
 use Rattle.explain.proofs.list.print_bodies.Tie as tie
-use Rattle.explain.proofs.list.print_bodies.Reads as reads
-use Rattle.explain.proofs.list.print_bodies.Lts as lts
-use Rattle.explain.proofs.list.print_body.Reads as print-body-reads
-use Rattle.tasklist.proofs.body_count.Reads as body-count-reads
 
 abbrev Inv-loop : tie.InvT-loop
 Inv-loop tables count s₀ s = Unit {0}

@@ -4,13 +4,6 @@ use Prim.Native.Nat.{_-_}
 use borrow.Author.Needs.{needs}
 use Rattle.explain.proofs.list.print_body.Statement.{statement}
 use Rattle.explain.proofs.list.print_body.Tie as tie
-use Rattle.explain.proofs.list.print_body.Reads as reads
-use Rattle.explain.proofs.list.print_body.Lts as lts
-use Rattle.explain.proofs.words.say.Reads as say-reads
-use Rattle.explain.proofs.words.say_instruction.Reads as say-instruction-reads
-use Rattle.explain.proofs.words.say_with.Reads as say-with-reads
-use Rattle.tasklist.proofs.body_size.Reads as body-size-reads
-use Rattle.tasklist.proofs.instruction_at.Reads as instruction-at-reads
 
 abbrev Inv-loop : tie.InvT-loop
 Inv-loop tables s size i₀ t7 t8 t9 i = Unit {0}

@@ -4,13 +4,6 @@ use Prim.Native.Nat.{_-_}
 use borrow.Author.Needs.{needs}
 use Rattle.explain.proofs.list.print_footprint.Statement.{statement}
 use Rattle.explain.proofs.list.print_footprint.Tie as tie
-use Rattle.explain.proofs.list.print_footprint.Reads as reads
-use Rattle.explain.proofs.list.print_footprint.Lts as lts
-use Rattle.explain.proofs.words.say.Reads as say-reads
-use Rattle.explain.proofs.words.say_line.Reads as say-line-reads
-use Rattle.explain.proofs.words.say_with.Reads as say-with-reads
-use Rattle.tasklist.proofs.footprint_size.Reads as footprint-size-reads
-use Rattle.tasklist.proofs.line_at.Reads as line-at-reads
 
 abbrev Inv-loop : tie.InvT-loop
 Inv-loop tables f size j₀ t8 t9 j = Unit {0}

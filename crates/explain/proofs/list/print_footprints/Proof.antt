@@ -4,10 +4,6 @@ use Prim.Native.Nat.{_-_}
 use borrow.Author.Needs.{needs}
 use Rattle.explain.proofs.list.print_footprints.Statement.{statement}
 use Rattle.explain.proofs.list.print_footprints.Tie as tie
-use Rattle.explain.proofs.list.print_footprints.Reads as reads
-use Rattle.explain.proofs.list.print_footprints.Lts as lts
-use Rattle.explain.proofs.list.print_footprint.Reads as print-footprint-reads
-use Rattle.tasklist.proofs.footprint_count.Reads as footprint-count-reads
 
 abbrev Inv-loop : tie.InvT-loop
 Inv-loop tables count f₀ f = Unit {0}

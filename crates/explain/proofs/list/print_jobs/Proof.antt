@@ -4,9 +4,6 @@ use Prim.Native.Nat.{_-_}
 use borrow.Author.Needs.{needs}
 use Rattle.explain.proofs.list.print_jobs.Statement.{statement}
 use Rattle.explain.proofs.list.print_jobs.Tie as tie
-use Rattle.explain.proofs.list.print_jobs.Reads as reads
-use Rattle.explain.proofs.list.print_jobs.Lts as lts
-use Rattle.explain.proofs.list.print_job.Reads as print-job-reads
 
 abbrev Inv-loop : tie.InvT-loop
 Inv-loop tables count n₀ n = Unit {0}

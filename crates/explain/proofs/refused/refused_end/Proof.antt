@@ -11,9 +11,6 @@ use Rattle.explain.proofs.FirstLaws.{Failed, failed-none, failed-next, 
 use borrow.Author.Needs.{needs}
 use Rattle.explain.proofs.refused.refused_end.Statement.{statement}
 use Rattle.explain.proofs.refused.refused_end.Tie as tie
-use Rattle.explain.proofs.refused.refused_end.Reads as reads
-use Rattle.explain.proofs.refused.refused_end.Lts as lts
-use Rattle.explain.proofs.refused.whole.Reads as whole-reads
 
 abbrev Inv-loop : tie.InvT-loop
 Inv-loop bytes n₀ n = (n ≤ length bytes) × Failed (λ i. is-whole (take i bytes)) (length bytes) n

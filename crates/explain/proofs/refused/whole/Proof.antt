@@ -8,10 +8,6 @@ use Rattle.explain.specs.Where.{whole-answer, is-whole}
 use borrow.Author.Needs.{needs}
 use Rattle.explain.proofs.refused.whole.Statement.{statement}
 use Rattle.explain.proofs.refused.whole.Tie as tie
-use Rattle.explain.proofs.refused.whole.Reads as reads
-use Rattle.explain.proofs.refused.whole.Lts as lts
-use Rattle.tasklist.proofs.check.Reads as check-reads
-use Rattle.tasklist.proofs.refusal_number.Reads as refusal-number-reads
 
 check-requires : tie.Need-check-requires
 check-requires c κs = search needs

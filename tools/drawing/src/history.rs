@@ -167,3 +167,77 @@ fn holder(run: &Run, job: usize, entry: usize, mode: u8) -> Option<Held> {
         .find(in_the_way)
         .map(|job| Held { job, entry })
 }
+
+#[cfg(test)]
+mod tests {
+    use super::*;
+
+    /// Who holds which call of an example back, with the call's number from 1 on.
+    fn held_in(jobs: &[u8], library: &[u8], calls: &[u8]) -> Vec<(usize, Held)> {
+        let events = follow(jobs, library, calls).unwrap().events;
+        let numbered = events.iter().enumerate();
+        numbered
+            .filter_map(|(i, event)| event.held.map(|held| (i + 1, held)))
+            .collect()
+    }
+
+    macro_rules! example {
+        ($name:literal) => {
+            (
+                &include_bytes!(concat!("../../../examples/", $name, "/jobs.bin"))[..],
+                &include_bytes!(concat!("../../../examples/", $name, "/library.bin"))[..],
+                &include_bytes!(concat!("../../../examples/", $name, "/calls.bin"))[..],
+            )
+        };
+    }
+
+    #[test]
+    fn the_copy_waits_for_the_job_that_sets() {
+        let (jobs, library, calls) = example!("p");
+        assert_eq!(
+            held_in(jobs, library, calls),
+            [(4, Held { job: 1, entry: 0 })]
+        );
+    }
+
+    #[test]
+    fn the_store_waits_for_each_reader() {
+        let (jobs, library, calls) = example!("readers");
+        let first = (9, Held { job: 1, entry: 0 });
+        let second = (16, Held { job: 2, entry: 0 });
+        assert_eq!(held_in(jobs, library, calls), [first, second]);
+    }
+
+    #[test]
+    fn faults_in_turn() {
+        let (jobs, library, calls) = example!("faults");
+        let events = follow(jobs, library, calls).unwrap().events;
+        let faults: Vec<u8> = events
+            .iter()
+            .map(|event| event.fault)
+            .filter(|fault| *fault != 0)
+            .collect();
+        assert_eq!(faults, [1, 2, 3]);
+        let refused: Vec<(&str, u32)> = events
+            .iter()
+            .filter(|event| event.answer != 0)
+            .map(|event| (event.word, event.answer))
+            .collect();
+        assert_eq!(refused, [("step", 14), ("start", 10)]);
+    }
+
+    #[test]
+    fn half_a_call_and_another_kind() {
+        let (jobs, library, _) = example!("p");
+        let answers = |calls: &[u8]| -> Vec<u32> {
+            follow(jobs, library, calls)
+                .unwrap()
+                .events
+                .iter()
+                .map(|event| event.answer)
+                .collect()
+        };
+        assert_eq!(answers(&[0, 0, 3, 0, 0]), [0, 18, 18]);
+        assert_eq!(answers(&[0, 200]), [9]);
+    }
+}

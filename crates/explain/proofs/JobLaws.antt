@@ -19,7 +19,7 @@ use Rattle.explain.specs.Jobs.{first-job, number-at, made, place-of, hol
 use Rattle.explain.proofs.FirstLaws.{Failed, failed-none, failed-next, failed-passes, failed-all}
 
 -- a sum with one item more
-total-more : (f : Instruction → ℕ) (xs : List Instruction) (i : ℕ) (d : Instruction) → i < length xs
+pub total-more : (f : Instruction → ℕ) (xs : List Instruction) (i : ℕ) (d : Instruction) → i < length xs
     → total f (take (suc i) xs) ≡ total f (take i xs) + f (getD xs i d)
 unfolding total
 total-more f [] i d h = let z : ⊥ = omega arith in absurd z

@@ -1,8 +1,5 @@
 // Prints job lists in words, in the text form that the assembler reads back (docs/text-form.md). A refused list is told
 // with its refusal and byte. Below it stands the list layer alone.
-ghost use Prim.Native.Nat.{_-_};
-ghost use mathlib.Core.Path.{_≡_};
-use libc::STDOUT_FILENO;
 use tasklist::Checked;
 
 // A task (document 01: job) that a list can make: its number, body (sheet) and footprint, and the task and place that

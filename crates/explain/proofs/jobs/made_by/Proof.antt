@@ -1,0 +1,101 @@
+-- By the instruction's case: a spawn makes a task, any other leaves the one that stands.
+-- Assumes nothing.
+use mathlib.Core.Path.{sym, ap}
+use Rattle.explain.specs.Jobs.{made}
+use borrow.Author.Needs.{needs}
+use Rattle.explain.proofs.jobs.made_by.Statement.{statement}
+use Rattle.explain.proofs.jobs.made_by.Tie as tie
+
+enum-told : tie.Need-enum-told
+enum-told c = search needs
+
+enum-told-2 : tie.Need-enum-told-2
+enum-told-2 c = search needs
+
+enum-told-3 : tie.Need-enum-told-3
+enum-told-3 c = search needs
+
+enum-told-4 : tie.Need-enum-told-4
+enum-told-4 c = search needs
+
+enum-told-5 : tie.Need-enum-told-5
+enum-told-5 c = search needs
+
+enum-told-6 : tie.Need-enum-told-6
+enum-told-6 c = search needs
+
+enum-told-7 : tie.Need-enum-told-7
+enum-told-7 c = search needs
+
+enum-known-instruction : tie.Need-enum-known-instruction
+enum-known-instruction c = search needs
+
+cast-t9 : tie.Need-cast-t9
+cast-t9 c = search needs
+
+cast-t10 : tie.Need-cast-t10
+cast-t10 c = search needs
+
+enum-told-8 : tie.Need-enum-told-8
+enum-told-8 c = search needs
+
+returns : tie.Need-returns
+unfolding made
+returns c = let a = c .before .before .args in ap (made (a .job) (a .place) (a .number) (a .depth)) (sym (c .enum-told .given .1))
+
+returns-2 : tie.Need-returns-2
+unfolding made
+returns-2 c = let a = c .before .before .args in ap (made (a .job) (a .place) (a .number) (a .depth)) (sym (c .enum-told2 .given .1))
+
+returns-3 : tie.Need-returns-3
+unfolding made
+returns-3 c = let a = c .before .before .args in ap (made (a .job) (a .place) (a .number) (a .depth)) (sym (c .enum-told3 .given .1))
+
+returns-4 : tie.Need-returns-4
+unfolding made
+returns-4 c = let a = c .before .before .args in ap (made (a .job) (a .place) (a .number) (a .depth)) (sym (c .enum-told4 .given .1))
+
+returns-5 : tie.Need-returns-5
+unfolding made
+returns-5 c = let a = c .before .before .args in ap (made (a .job) (a .place) (a .number) (a .depth)) (sym (c .enum-told5 .given .1))
+
+returns-6 : tie.Need-returns-6
+unfolding made
+returns-6 c = let a = c .before .before .args in ap (made (a .job) (a .place) (a .number) (a .depth)) (sym (c .enum-told6 .given .1))
+
+returns-7 : tie.Need-returns-7
+unfolding made
+returns-7 c = let a = c .before .before .args in ap (made (a .job) (a .place) (a .number) (a .depth)) (sym (c .enum-told7 .given .1))
+
+returns-8 : tie.Need-returns-8
+unfolding made
+returns-8 c = let a = c .before .before .before .args in ap (made (a .job) (a .place) (a .number) (a .depth)) (sym (c .before .instruction .given .1))
+
+returns-9 : tie.Need-returns-9
+unfolding made
+returns-9 c = let a = c .before .before .args in ap (made (a .job) (a .place) (a .number) (a .depth)) (sym (c .enum-told8 .given .1))
+
+pub made-by-spec : {M : Type 1} → statement M
+made-by-spec =
+    tie.close
+    (tie.spec
+    enum-told
+    enum-told-2
+    enum-told-3
+    enum-told-4
+    enum-told-5
+    enum-told-6
+    enum-told-7
+    enum-known-instruction
+    cast-t9
+    cast-t10
+    enum-told-8
+    returns
+    returns-2
+    returns-3
+    returns-4
+    returns-5
+    returns-6
+    returns-7
+    returns-8
+    returns-9)

@@ -1,0 +1,22 @@
+-- Where a list is refused: "a field (mark, number, line, instruction) is taken only when whole, else 1; it is tested when
+-- taken". So the shortest part from the front whose answer isn't 1 ends with the field that is refused; with bytes left
+-- over it is the list that is followed by them.
+use Prim.Native.Nat.{ℕ}
+use mathlib.Core.List.{List}
+use mathlib.Core.Bool.{Bool, true, not}
+use lib.Dec.{eqb}
+use lib.ListN.{length, take}
+use Rattle.tasklist.specs.Decode.{decode}
+use Rattle.tasklist.specs.Answers.{Answer, refuses, gives, check-answer}
+use Rattle.explain.specs.Search.{first-from}
+
+-- an answer other than refusal 1
+abbrev pub whole-answer : Answer → Bool
+whole-answer (gives n) = true
+whole-answer (refuses k) = not (eqb k 1)
+
+unfoldable pub is-whole : List ℕ → Bool
+is-whole b = whole-answer (check-answer (decode b))
+
+unfoldable pub shortest-whole : List ℕ → ℕ
+shortest-whole b = first-from (λ n. is-whole (take n b)) 0 (length b)

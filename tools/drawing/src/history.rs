@@ -1,0 +1,243 @@
+//! The calls of a publication, one after the other, and what each did.
+
+use second::coordinator::{call, open_files};
+use second::list::Instruction;
+use second::run::{may_read, may_write, queue_of, Run, READ, RECORDS, WRITE};
+
+/// Who holds a call back, and at which entry.
+#[derive(Clone, Copy, Debug, PartialEq, Eq)]
+pub struct Held {
+    pub job: usize,
+    pub entry: usize,
+}
+
+/// One call: its words, the coordinator's answer, and the jobs' states behind it.
+pub struct Event {
+    pub job: usize,
+    pub word: &'static str,
+    pub answer: u32,
+    pub fault: u8,
+    pub child: Option<usize>,
+    pub held: Option<Held>,
+    pub states: Vec<u8>,
+}
+
+pub struct History {
+    pub events: Vec<Event>,
+    pub before: Vec<u32>,
+    pub run: Run,
+}
+
+/// Opens a run and makes the calls on it.
+pub fn follow(jobs: &[u8], library: &[u8], calls: &[u8]) -> Result<History, u32> {
+    let mut run = open_files(jobs, library)?;
+    let before = run.memory.clone();
+    let mut events = Vec::new();
+    for bytes in calls.chunks(2) {
+        events.push(make_call(&mut run, bytes));
+    }
+    Ok(History {
+        events,
+        before,
+        run,
+    })
+}
+
+fn make_call(run: &mut Run, bytes: &[u8]) -> Event {
+    let kind = bytes[0];
+    let job = bytes.get(1).copied().unwrap_or(0) as usize;
+    let instruction = if kind == 1 {
+        next_instruction(run, job)
+    } else {
+        None
+    };
+    let order = run.order.clone();
+    let held = held_back(run, kind, job, instruction);
+    let answer = match bytes.len() {
+        2 => call(run, kind, job as u32).err().unwrap_or(0),
+        _ => second::coordinator::BAD_CALL,
+    };
+    let stepped = kind == 1 && answer == 0;
+    Event {
+        job,
+        word: word_of(kind, answer, instruction),
+        answer,
+        fault: if stepped { run.records[job].fault } else { 0 },
+        child: run
+            .order
+            .iter()
+            .copied()
+            .find(|other| !order.contains(other)),
+        held: held.filter(|_| answer == 12),
+        states: run.records.iter().map(|record| record.state).collect(),
+    }
+}
+
+/// A call's word: of a step the instruction's name, if it came to that.
+fn word_of(kind: u8, answer: u32, instruction: Option<Instruction>) -> &'static str {
+    match (kind, instruction) {
+        (0, _) => "start",
+        (1, Some(instruction)) if answer == 0 || answer == 12 => name(&instruction),
+        (1, _) => "step",
+        (2, _) => "end",
+        _ => "?",
+    }
+}
+
+/// The instruction at a job's place.
+fn next_instruction(run: &Run, job: usize) -> Option<Instruction> {
+    let record = run.records.get(job)?;
+    if record.state == 0 {
+        return None;
+    }
+    run.list.bodies[record.body].get(record.pc).copied()
+}
+
+fn name(instruction: &Instruction) -> &'static str {
+    match instruction {
+        Instruction::Const { .. } => "const",
+        Instruction::Add { .. } => "add",
+        Instruction::Sub { .. } => "sub",
+        Instruction::Less { .. } => "less",
+        Instruction::Load { .. } => "load",
+        Instruction::Store { .. } => "store",
+        Instruction::Skip { .. } => "skip",
+        Instruction::Spawn { .. } => "spawn",
+        Instruction::Wait { .. } => "wait",
+    }
+}
+
+/// The first entry that the call needs and may not have, and the first job ahead that is in the way there.
+fn held_back(run: &Run, kind: u8, job: usize, instruction: Option<Instruction>) -> Option<Held> {
+    if job >= RECORDS || !run.order.contains(&job) {
+        return None;
+    }
+    let needs = if kind == 0 {
+        start_needs(run, job)
+    } else {
+        step_needs(run, job, instruction?)
+    };
+    needs
+        .into_iter()
+        .find_map(|(entry, mode)| holder(run, job, entry, mode))
+}
+
+fn start_needs(run: &Run, job: usize) -> Vec<(usize, u8)> {
+    let modes = &run.records[job].modes;
+    (0..run.list.locations)
+        .map(|entry| (entry, modes[entry]))
+        .filter(|need| need.1 != 0)
+        .collect()
+}
+
+fn step_needs(run: &Run, job: usize, instruction: Instruction) -> Vec<(usize, u8)> {
+    let record = &run.records[job];
+    let entry_in = |register: u8| record.registers[register as usize] as usize;
+    let need = match instruction {
+        Instruction::Load { b, .. } => (entry_in(b), READ),
+        Instruction::Store { a, .. } => (entry_in(a), WRITE),
+        Instruction::Wait { a } if entry_in(a) < run.list.locations => {
+            (entry_in(a), record.modes[entry_in(a)])
+        }
+        _ => return Vec::new(),
+    };
+    if need.0 < run.list.locations {
+        vec![need]
+    } else {
+        Vec::new()
+    }
+}
+
+/// The first job ahead in an entry's queue that keeps this one from reading or writing it.
+fn holder(run: &Run, job: usize, entry: usize, mode: u8) -> Option<Held> {
+    let free = if mode == READ {
+        may_read(run, job, entry)
+    } else {
+        may_write(run, job, entry)
+    };
+    if free {
+        return None;
+    }
+    let in_the_way = |other: &usize| mode != READ || run.records[*other].modes[entry] != READ;
+    let ahead = queue_of(run, entry)
+        .into_iter()
+        .take_while(|other| *other != job);
+    ahead
+        .into_iter()
+        .find(in_the_way)
+        .map(|job| Held { job, entry })
+}
+
+#[cfg(test)]
+mod tests {
+    use super::*;
+
+    /// Who holds which call of an example back, with the call's number from 1 on.
+    fn held_in(jobs: &[u8], library: &[u8], calls: &[u8]) -> Vec<(usize, Held)> {
+        let events = follow(jobs, library, calls).unwrap().events;
+        let numbered = events.iter().enumerate();
+        numbered
+            .filter_map(|(i, event)| event.held.map(|held| (i + 1, held)))
+            .collect()
+    }
+
+    macro_rules! example {
+        ($name:literal) => {
+            (
+                &include_bytes!(concat!("../../../examples/", $name, "/jobs.bin"))[..],
+                &include_bytes!(concat!("../../../examples/", $name, "/library.bin"))[..],
+                &include_bytes!(concat!("../../../examples/", $name, "/calls.bin"))[..],
+            )
+        };
+    }
+
+    #[test]
+    fn the_copy_waits_for_the_job_that_sets() {
+        let (jobs, library, calls) = example!("p");
+        assert_eq!(
+            held_in(jobs, library, calls),
+            [(4, Held { job: 1, entry: 0 })]
+        );
+    }
+
+    #[test]
+    fn the_store_waits_for_each_reader() {
+        let (jobs, library, calls) = example!("readers");
+        let first = (9, Held { job: 1, entry: 0 });
+        let second = (16, Held { job: 2, entry: 0 });
+        assert_eq!(held_in(jobs, library, calls), [first, second]);
+    }
+
+    #[test]
+    fn faults_in_turn() {
+        let (jobs, library, calls) = example!("faults");
+        let events = follow(jobs, library, calls).unwrap().events;
+        let faults: Vec<u8> = events
+            .iter()
+            .map(|event| event.fault)
+            .filter(|fault| *fault != 0)
+            .collect();
+        assert_eq!(faults, [1, 2, 3]);
+        let refused: Vec<(&str, u32)> = events
+            .iter()
+            .filter(|event| event.answer != 0)
+            .map(|event| (event.word, event.answer))
+            .collect();
+        assert_eq!(refused, [("step", 14), ("start", 10)]);
+    }
+
+    #[test]
+    fn half_a_call_and_another_kind() {
+        let (jobs, library, _) = example!("p");
+        let answers = |calls: &[u8]| -> Vec<u32> {
+            follow(jobs, library, calls)
+                .unwrap()
+                .events
+                .iter()
+                .map(|event| event.answer)
+                .collect()
+        };
+        assert_eq!(answers(&[0, 0, 3, 0, 0]), [0, 18, 18]);
+        assert_eq!(answers(&[0, 200]), [9]);
+    }
+}

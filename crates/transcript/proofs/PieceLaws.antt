@@ -21,7 +21,7 @@ use Rattle.runtime.specs.declared.Called.{Called}
 use Rattle.runtime.specs.View.{model, context-of, SoundRun}
 use Rattle.runtime.specs.Calls.{call-of, CalledAs}
 use Rattle.runtime.specs.Calls.{calls-of-kind}
-use Rattle.runtime.proofs.ReplayLaws.{other-kind}
+use Rattle.runtime.proofs.MadeLaws.{other-kind}
 use Rattle.transcript.specs.declared.Made.{Made}
 use Rattle.transcript.specs.declared.Pending.{Pending}
 use Rattle.transcript.specs.declared.Pending.the-variants.{Nothing, Kind}

@@ -1,109 +1,113 @@
 //! Target `calls`: a list, a library and calls; every answer and the whole run after the last call are compared.
 
-use measured::coordinator::{call, open_files};
-use measured::run::Run;
+use measured::coordinator::call;
+use measured::run::{open, Run};
 use second::cases::hex;
 
 use crate::lent::{differ, hash, Lent};
 use crate::parts::{call_of, Parts};
 
 extern "C" {
-    /// Opens a run and makes the calls, each five bytes: kind, job's number (least first). Gives 0, 128 plus the refusal of
-    /// open, or 128 + 17 where `out` is too short. Writes each call's answer (0, its refusal, 18 for another kind), then the
-    /// entries, calls, weight, jobs left, and the 128 records.
+    /// Opens a run and makes the calls: 0 start, 1 step, 2 end. Gives 0, or 128 plus the refusal of open. Writes each call's
+    /// answer (0, its refusal, 18 for another kind), then the run, as `put_run` below does.
     fn fuzz_replay(
         list: *const u8,
         list_len: usize,
-        library: *const u8,
-        library_len: usize,
-        calls: *const u8,
-        calls_len: usize,
-        out: *mut u8,
+        memory: *const u32,
+        memory_len: usize,
+        kinds: *const u8,
+        kinds_len: usize,
+        tasks: *const u32,
+        tasks_len: usize,
+        out: *mut u32,
         out_len: usize,
     ) -> u32;
 }
 
-const FILLING: u8 = 0x5A;
+/// What the output holds before, and around it.
+const FILLING: u32 = 0x5A5A_5A5A;
+const AROUND: usize = 8;
 
-fn put(out: &mut Vec<u8>, number: u64) {
-    let number = u32::try_from(number).expect("a number of four bytes");
-    out.extend(number.to_le_bytes());
-}
-
-/// Numbers have four bytes; of a record: state, sheet, place, fault, modes in a byte each, registers, instructions done, weight.
-fn put_run(out: &mut Vec<u8>, run: &Run) {
-    for number in &run.memory {
-        put(out, *number as u64);
-    }
-    put(out, run.calls);
-    put(out, run.weight);
-    put(out, run.order.len() as u64);
+/// Entries in 64 places, calls, weight, jobs left, the order in 128 places (255 behind it), and 128 records.
+fn put_run(out: &mut Vec<u32>, run: &Run) {
+    let end = out.len() + 64;
+    out.extend(&run.memory);
+    out.resize(end, 0);
+    out.extend([run.calls as u32, run.weight as u32, run.order.len() as u32]);
+    let end = out.len() + 128;
+    out.extend(run.order.iter().map(|task| *task as u32));
+    out.resize(end, 255);
     for record in &run.records {
-        out.extend([record.state, record.body as u8, record.pc as u8, record.fault]);
-        out.extend(record.modes);
-        for register in record.registers {
-            put(out, register as u64);
-        }
-        put(out, record.steps);
-        put(out, record.weight);
+        out.extend([record.state as u32, record.body as u32, record.pc as u32]);
+        out.extend([record.fault as u32, record.steps as u32, record.weight as u32]);
+        out.extend(record.registers);
+        out.extend(record.modes.map(u32::from));
     }
 }
 
-/// What the second implementation gives.
-fn second_replay(list: &[u8], library: &[u8], calls: &[(u8, u32)]) -> (u32, Vec<u8>) {
-    let mut run = match open_files(list, library) {
+/// What the second implementation gives and writes.
+fn second_replay(list: &[u8], memory: &[u32], calls: &[(u8, u32)]) -> (u32, Vec<u32>) {
+    let mut run = match open(list, memory) {
         Ok(run) => run,
         Err(refusal) => return (128 + refusal, Vec::new()),
     };
-    let mut out = Vec::new();
+    let mut out = Vec::with_capacity(calls.len() + 9667);
     for (kind, task) in calls {
-        out.push(call(&mut run, *kind, *task).map_or_else(|refusal| refusal as u8, |()| 0));
+        out.push(call(&mut run, *kind, *task).map_or_else(|refusal| refusal, |()| 0));
     }
     put_run(&mut out, &run);
     (0, out)
 }
 
+/// The places where two outputs differ, at most 20.
+fn places(first: &[u32], second: &[u32]) -> String {
+    let both = first.iter().zip(second).enumerate();
+    let lines = both.filter(|(_, (first, second))| first != second).take(20);
+    lines.map(|(place, (first, second))| format!(" {place}: {first}, {second};")).collect()
+}
+
 pub fn compare(input: &[u8]) {
     let parts = Parts::of(input, true);
     let shift = hash(input) % 8;
-    let (library, behind) = parts.lent_library();
+    let (library, _) = parts.lent_library();
+    let number = |bytes: &[u8]| u32::from_le_bytes([bytes[0], bytes[1], bytes[2], bytes[3]]);
+    let memory: Vec<u32> = library.chunks_exact(4).map(number).collect();
     let calls: Vec<(u8, u32)> = parts.calls.chunks_exact(2).map(|pair| call_of([pair[0], pair[1]])).collect();
-    let bytes: Vec<u8> = calls
-        .iter()
-        .flat_map(|(kind, task)| std::iter::once(*kind).chain(task.to_le_bytes()))
-        .collect();
-    let (second, written) = second_replay(&parts.list, &library, &calls);
-    let mut expected = written;
-    expected.push(FILLING);
+    let kinds: Vec<u8> = calls.iter().map(|call| call.0).collect();
+    let tasks: Vec<u32> = calls.iter().map(|call| call.1).collect();
+    let (second, written) = second_replay(&parts.list, &memory, &calls);
+    let mut expected = vec![FILLING; AROUND];
+    expected.extend(written);
+    // one place more than is written
+    expected.resize(expected.len() + 1 + AROUND, FILLING);
+    let mut out = vec![FILLING; expected.len()];
     let mut lent_list = Lent::new(&parts.list, &[], shift);
-    let mut lent_library = Lent::new(&library, &behind, shift);
-    let mut lent_calls = Lent::new(&bytes, &[], shift);
-    let mut lent_out = Lent::new(&vec![FILLING; expected.len()], &[], shift);
+    let mut lent_kinds = Lent::new(&kinds, &[], shift);
+    let (memory_before, tasks_before) = (memory.clone(), tasks.clone());
     let given = unsafe {
         fuzz_replay(
             lent_list.pointer(),
             lent_list.len(),
-            lent_library.pointer(),
-            lent_library.len(),
-            lent_calls.pointer(),
-            lent_calls.len(),
-            lent_out.pointer(),
-            lent_out.len(),
+            memory.as_ptr(),
+            memory.len(),
+            lent_kinds.pointer(),
+            lent_kinds.len(),
+            tasks.as_ptr(),
+            tasks.len(),
+            out[AROUND..].as_mut_ptr(),
+            out.len() - 2 * AROUND,
         )
     };
-    let same = lent_list.unchanged() && lent_library.unchanged() && lent_calls.unchanged();
-    let around_same = lent_out.unchanged_around();
-    if given != second || !same || !around_same || lent_out.slice() != &expected[..] {
+    let same = lent_list.unchanged() && lent_kinds.unchanged() && memory == memory_before && tasks == tasks_before;
+    if given != second || !same || out != expected {
         differ(&[
             format!("list {}", hex(&parts.list)),
-            format!("library {}", hex(&library)),
-            format!("behind it {}", hex(&behind)),
+            format!("library {memory:?}"),
             format!("calls (kind, job) {calls:?}"),
             format!("{shift} bytes from an even place"),
             format!("replay: first {given}, second {second}"),
-            format!("written: first  {}", hex(lent_out.slice())),
-            format!("written: second {}", hex(&expected)),
-            format!("unchanged: list, library and calls {same}, beside the output {around_same}"),
+            format!("list, library and calls unchanged: {same}"),
+            format!("places behind {AROUND} of filling, first and second:{}", places(&out, &expected)),
         ])
     }
 }

@@ -6,6 +6,7 @@ use second::cases::hex;
 
 use crate::lent::{differ, hash, Lent};
 use crate::parts::{call_of, Parts};
+use crate::tally;
 
 extern "C" {
     /// Opens a run and makes the calls: 0 start, 1 step, 2 end. Gives 0, or 128 plus the refusal of open. Writes each call's
@@ -53,7 +54,9 @@ fn second_replay(list: &[u8], memory: &[u32], calls: &[(u8, u32)]) -> (u32, Vec<
     };
     let mut out = Vec::with_capacity(calls.len() + 9667);
     for (kind, task) in calls {
-        out.push(call(&mut run, *kind, *task).map_or_else(|refusal| refusal, |()| 0));
+        let answer = call(&mut run, *kind, *task).map_or_else(|refusal| refusal, |()| 0);
+        tally::call(answer);
+        out.push(answer);
     }
     put_run(&mut out, &run);
     (0, out)
@@ -76,6 +79,7 @@ pub fn compare(input: &[u8]) {
     let kinds: Vec<u8> = calls.iter().map(|call| call.0).collect();
     let tasks: Vec<u32> = calls.iter().map(|call| call.1).collect();
     let (second, written) = second_replay(&parts.list, &memory, &calls);
+    tally::list(second);
     let mut expected = vec![FILLING; AROUND];
     expected.extend(written);
     // one place more than is written

@@ -5,6 +5,7 @@ use second::cases::hex;
 
 use crate::lent::{differ, hash, Lent};
 use crate::parts::Parts;
+use crate::tally;
 
 extern "C" {
     fn preview_hand_run(
@@ -31,6 +32,7 @@ pub fn compare(input: &[u8]) {
     let mut lent_library = Lent::new(&library, &behind, shift);
     let mut lent_result = Lent::new(&expected, &[], shift);
     let second = second_hand_run(&parts.list, &library, &mut expected);
+    tally::list(second);
     let given = unsafe {
         preview_hand_run(
             lent_list.pointer(),

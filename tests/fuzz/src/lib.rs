@@ -5,6 +5,7 @@
 mod lent;
 mod mutate;
 mod parts;
+mod tally;
 
 #[cfg(calls)]
 #[path = "calls.rs"]

@@ -1,4 +1,5 @@
-//! Changes that know what a list and its calls are, so that most lists stay accepted. Half of all changes are the fuzzer's own.
+//! Changes that know what a list and its calls are, so that most lists stay accepted, beside the fuzzer's own. The fuzzer makes
+//! up to five changes on end, so that its own must be the fewer.
 
 use second::cases::{list_case, next_call, random_library, random_list, library_bytes, STRATEGIES};
 use second::coordinator::{call, open_files};
@@ -12,7 +13,7 @@ use crate::parts::{call_of, Parts};
 /// Target `check`.
 pub fn list_input(input: &[u8], most: usize, seed: u32) -> Vec<u8> {
     let mut rng = Rng::new(seed as u64);
-    changed_list(&mut rng, input, most)
+    changed_list(&mut rng, input, most, 75)
 }
 
 /// Target `hand_run`.
@@ -50,7 +51,7 @@ fn room(parts: &Parts, own: usize, most: usize) -> usize {
 
 fn change_list(rng: &mut Rng, parts: &mut Parts, most: usize) {
     let room = room(parts, parts.list.len(), most);
-    parts.list = changed_list(rng, &parts.list, room);
+    parts.list = changed_list(rng, &parts.list, room, 92);
 }
 
 fn change_library(rng: &mut Rng, parts: &mut Parts) {
@@ -64,28 +65,31 @@ fn change_library(rng: &mut Rng, parts: &mut Parts) {
 // ---------------------------------------------------------------------------------------------
 // Lists
 
-/// A changed list: by the fuzzer, by its own fields, or rarely another list. It has at most `most` bytes.
-fn changed_list(rng: &mut Rng, bytes: &[u8], most: usize) -> Vec<u8> {
-    let own_way = rng.below(100);
-    if own_way < 2 {
-        let other = if rng.percent(50) { encode(&random_list(rng)) } else { list_case(rng) };
-        if other.len() <= most {
-            return other;
-        }
+/// A changed list of at most `most` bytes: in `percent` of the cases by its fields, else by the fuzzer; rarely, and in half the
+/// cases where it has no fields to change, another list.
+fn changed_list(rng: &mut Rng, bytes: &[u8], most: usize, percent: usize) -> Vec<u8> {
+    if rng.percent(1) {
+        return list_case(rng);
     }
-    if own_way < 50 {
-        if let Ok(mut list) = decode_records(bytes) {
+    if !rng.percent(percent) {
+        return fuzzer_mutation(bytes, most);
+    }
+    let changed = match decode_records(bytes) {
+        Ok(mut list) => {
             for _ in 0..rng.between(1, 4) {
                 change(rng, &mut list);
             }
             repair(rng, &mut list);
-            let changed = encode(&list);
-            if changed.len() <= most {
-                return changed;
-            }
+            encode(&list)
         }
+        Err(_) if rng.percent(50) => encode(&random_list(rng)),
+        Err(_) => return fuzzer_mutation(bytes, most),
+    };
+    if changed.len() <= most {
+        changed
+    } else {
+        fuzzer_mutation(bytes, most)
     }
-    fuzzer_mutation(bytes, most)
 }
 
 /// One change; what it leaves wrong is repaired afterwards.
@@ -291,6 +295,9 @@ fn go_on(rng: &mut Rng, parts: &Parts, calls: &mut Vec<[u8; 2]>) {
     let any_percent = rng.pick(&[0, 10, 50]);
     let mut last = 0;
     for _ in 0..rng.pick(&[1, 4, 16, 64, 256]) {
+        if run.order.is_empty() && rng.percent(80) {
+            break;
+        }
         let (kind, task) = next_call(rng, strategy, &run, last, any_percent);
         if task > 255 {
             continue;

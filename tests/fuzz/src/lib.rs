@@ -41,9 +41,10 @@ pub unsafe extern "C" fn LLVMFuzzerTestOneInput(data: *const u8, size: usize) ->
 
 #[no_mangle]
 pub unsafe extern "C" fn LLVMFuzzerCustomMutator(data: *mut u8, size: usize, max_size: usize, seed: u32) -> usize {
-    let buffer = std::slice::from_raw_parts_mut(data, max_size);
-    let mut input = target::mutate(&buffer[..size], max_size, seed);
+    // while a case is made smaller, the size is above the largest that is asked for
+    let given = std::slice::from_raw_parts(data, size).to_vec();
+    let mut input = target::mutate(&given, max_size, seed);
     input.truncate(max_size);
-    buffer[..input.len()].copy_from_slice(&input);
+    std::slice::from_raw_parts_mut(data, input.len()).copy_from_slice(&input);
     input.len()
 }

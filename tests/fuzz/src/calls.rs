@@ -40,7 +40,11 @@ fn put_run(out: &mut Vec<u32>, run: &Run) {
     out.resize(end, 255);
     for record in &run.records {
         out.extend([record.state as u32, record.body as u32, record.pc as u32]);
-        out.extend([record.fault as u32, record.steps as u32, record.weight as u32]);
+        out.extend([
+            record.fault as u32,
+            record.steps as u32,
+            record.weight as u32,
+        ]);
         out.extend(record.registers);
         out.extend(record.modes.map(u32::from));
     }
@@ -66,7 +70,9 @@ fn second_replay(list: &[u8], memory: &[u32], calls: &[(u8, u32)]) -> (u32, Vec<
 fn places(first: &[u32], second: &[u32]) -> String {
     let both = first.iter().zip(second).enumerate();
     let lines = both.filter(|(_, (first, second))| first != second).take(20);
-    lines.map(|(place, (first, second))| format!(" {place}: {first}, {second};")).collect()
+    lines
+        .map(|(place, (first, second))| format!(" {place}: {first}, {second};"))
+        .collect()
 }
 
 pub fn compare(input: &[u8]) {
@@ -75,7 +81,11 @@ pub fn compare(input: &[u8]) {
     let (library, _) = parts.lent_library();
     let number = |bytes: &[u8]| u32::from_le_bytes([bytes[0], bytes[1], bytes[2], bytes[3]]);
     let memory: Vec<u32> = library.chunks_exact(4).map(number).collect();
-    let calls: Vec<(u8, u32)> = parts.calls.chunks_exact(2).map(|pair| call_of([pair[0], pair[1]])).collect();
+    let calls: Vec<(u8, u32)> = parts
+        .calls
+        .chunks_exact(2)
+        .map(|pair| call_of([pair[0], pair[1]]))
+        .collect();
     let kinds: Vec<u8> = calls.iter().map(|call| call.0).collect();
     let tasks: Vec<u32> = calls.iter().map(|call| call.1).collect();
     let (second, written) = second_replay(&parts.list, &memory, &calls);
@@ -102,7 +112,10 @@ pub fn compare(input: &[u8]) {
             out.len() - 2 * AROUND,
         )
     };
-    let same = lent_list.unchanged() && lent_kinds.unchanged() && memory == memory_before && tasks == tasks_before;
+    let same = lent_list.unchanged()
+        && lent_kinds.unchanged()
+        && memory == memory_before
+        && tasks == tasks_before;
     if given != second || !same || out != expected {
         differ(&[
             format!("list {}", hex(&parts.list)),
@@ -111,7 +124,10 @@ pub fn compare(input: &[u8]) {
             format!("{shift} bytes from an even place"),
             format!("replay: first {given}, second {second}"),
             format!("list, library and calls unchanged: {same}"),
-            format!("places behind {AROUND} of filling, first and second:{}", places(&out, &expected)),
+            format!(
+                "places behind {AROUND} of filling, first and second:{}",
+                places(&out, &expected)
+            ),
         ])
     }
 }

@@ -34,13 +34,22 @@ fn fuzzer_mutation(bytes: &[u8], most: usize) -> Vec<u8> {
 
 #[no_mangle]
 pub unsafe extern "C" fn LLVMFuzzerTestOneInput(data: *const u8, size: usize) -> i32 {
-    let input = if size == 0 { &[][..] } else { std::slice::from_raw_parts(data, size) };
+    let input = if size == 0 {
+        &[][..]
+    } else {
+        std::slice::from_raw_parts(data, size)
+    };
     target::compare(input);
     0
 }
 
 #[no_mangle]
-pub unsafe extern "C" fn LLVMFuzzerCustomMutator(data: *mut u8, size: usize, max_size: usize, seed: u32) -> usize {
+pub unsafe extern "C" fn LLVMFuzzerCustomMutator(
+    data: *mut u8,
+    size: usize,
+    max_size: usize,
+    seed: u32,
+) -> usize {
     // while a case is made smaller, the size is above the largest that is asked for
     let given = std::slice::from_raw_parts(data, size).to_vec();
     let mut input = target::mutate(&given, max_size, seed);

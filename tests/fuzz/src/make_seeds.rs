@@ -35,28 +35,59 @@ fn main() {
     let mut rng = Rng::new(1);
     for _ in 0..300 {
         let list = list_case(&mut rng);
-        cases.push(Parts { list, ..Parts::default() });
+        cases.push(Parts {
+            list,
+            ..Parts::default()
+        });
     }
     for case in named_cases() {
-        let calls = case.calls.iter().flat_map(|(kind, task)| [*kind, *task as u8]).collect();
+        let calls = case
+            .calls
+            .iter()
+            .flat_map(|(kind, task)| [*kind, *task as u8])
+            .collect();
         let library = library_bytes(&case.library);
-        cases.push(Parts { list: case.list, calls, library, ..Parts::default() });
+        cases.push(Parts {
+            list: case.list,
+            calls,
+            library,
+            ..Parts::default()
+        });
     }
     for _ in 0..200 {
         let (list, library, calls) = run_case(&mut rng);
-        cases.push(Parts { list, calls, library, ..Parts::default() });
+        cases.push(Parts {
+            list,
+            calls,
+            library,
+            ..Parts::default()
+        });
     }
-    let mut names: Vec<_> = fs::read_dir(examples).expect("the examples").map(|entry| entry.unwrap().path()).collect();
+    let mut names: Vec<_> = fs::read_dir(examples)
+        .expect("the examples")
+        .map(|entry| entry.unwrap().path())
+        .collect();
     names.sort();
     for name in names {
         let file = |file| fs::read(name.join(file)).unwrap_or_default();
-        cases.push(Parts { list: file("jobs.bin"), library: file("library.bin"), ..Parts::default() });
+        cases.push(Parts {
+            list: file("jobs.bin"),
+            library: file("library.bin"),
+            ..Parts::default()
+        });
     }
     cases.retain(|case| case.list.len() <= MOST);
-    cases.push(Parts { list: longest_list(), ..Parts::default() });
+    cases.push(Parts {
+        list: longest_list(),
+        ..Parts::default()
+    });
     for (number, case) in cases.iter_mut().enumerate() {
         case.calls.truncate(MOST);
-        case.lengths = if number % 8 == 0 { number as u8 } else { FITTING };
+        case.lengths = if number % 8 == 0 {
+            number as u8
+        } else {
+            FITTING
+        };
         write(folder, "check", number, &case.list);
         write(folder, "hand_run", number, &case.input(false));
         write(folder, "calls", number, &case.input(true));

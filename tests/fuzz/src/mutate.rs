@@ -1,10 +1,10 @@
 //! Changes that know what a list and its calls are, so that most lists stay accepted, beside the fuzzer's own. The fuzzer makes
 //! up to five changes on end, so that its own must be the fewer.
 
-use second::cases::{list_case, next_call, random_library, random_list, library_bytes, STRATEGIES};
+use second::cases::{library_bytes, list_case, next_call, random_library, random_list, STRATEGIES};
 use second::coordinator::{call, open_files};
-use second::list::{decode_records, task_count, Instruction, Line, TaskList};
 use second::encode;
+use second::list::{decode_records, task_count, Instruction, Line, TaskList};
 use second::rng::Rng;
 
 use crate::fuzzer_mutation;
@@ -100,7 +100,9 @@ fn change(rng: &mut Rng, list: &mut TaskList) {
         0 => list.locations = rng.pick(&[1, 2, 3, 8, 63, 64, rng.clone().between(1, 64)]),
         // footprints and their lines
         1 if list.footprints.len() < 32 => {
-            let lines = (0..rng.below(9)).map(|_| any_line(rng, list.locations)).collect();
+            let lines = (0..rng.below(9))
+                .map(|_| any_line(rng, list.locations))
+                .collect();
             list.footprints.push(lines);
         }
         2 if !list.footprints.is_empty() => {
@@ -135,7 +137,11 @@ fn change(rng: &mut Rng, list: &mut TaskList) {
         // instructions
         8..=10 if length < 32 => {
             let instruction = any_instruction(rng, list, s);
-            let times = if rng.percent(10) { rng.between(1, 32 - length) } else { 1 };
+            let times = if rng.percent(10) {
+                rng.between(1, 32 - length)
+            } else {
+                1
+            };
             let pc = rng.below(length + 1);
             for _ in 0..times {
                 list.bodies[s].insert(pc, instruction);
@@ -181,14 +187,20 @@ fn any_instruction(rng: &mut Rng, list: &TaskList, s: usize) -> Instruction {
                 1 => list.locations,
                 _ => rng.below(list.locations),
             };
-            Instruction::Const { a, value: value as u16 }
+            Instruction::Const {
+                a,
+                value: value as u16,
+            }
         }
         2 => Instruction::Add { a, b, c },
         3 => Instruction::Sub { a, b, c },
         4 => Instruction::Less { a, b, c },
         5 | 6 => Instruction::Load { a, b },
         7 | 8 => Instruction::Store { a, b },
-        9 => Instruction::Skip { a, b: rng.below(6) as u8 },
+        9 => Instruction::Skip {
+            a,
+            b: rng.below(6) as u8,
+        },
         10 if s + 1 < list.bodies.len() && !list.footprints.is_empty() => Instruction::Spawn {
             body: rng.between(s + 1, list.bodies.len() - 1) as u8,
             footprint: rng.below(list.footprints.len()) as u8,
@@ -248,7 +260,11 @@ fn repair(rng: &mut Rng, list: &mut TaskList) {
 /// Cuts the calls and goes on with others, mostly such as are accepted; or changes single ones.
 fn change_calls(rng: &mut Rng, parts: &mut Parts, most: usize) {
     let room = room(parts, parts.calls.len(), most) / 2;
-    let mut calls: Vec<[u8; 2]> = parts.calls.chunks_exact(2).map(|pair| [pair[0], pair[1]]).collect();
+    let mut calls: Vec<[u8; 2]> = parts
+        .calls
+        .chunks_exact(2)
+        .map(|pair| [pair[0], pair[1]])
+        .collect();
     match rng.below(8) {
         0 => {
             parts.calls = fuzzer_mutation(&parts.calls, 2 * room);
@@ -274,8 +290,16 @@ fn change_calls(rng: &mut Rng, parts: &mut Parts, most: usize) {
 
 /// Any call; kinds and job numbers out of range are rare.
 fn any_bytes(rng: &mut Rng) -> [u8; 2] {
-    let kind = if rng.percent(5) { rng.byte() } else { rng.below(3) as u8 };
-    let task = if rng.percent(80) { rng.below(12) } else { rng.below(256) };
+    let kind = if rng.percent(5) {
+        rng.byte()
+    } else {
+        rng.below(3) as u8
+    };
+    let task = if rng.percent(80) {
+        rng.below(12)
+    } else {
+        rng.below(256)
+    };
     [kind, task as u8]
 }
 

@@ -19,7 +19,10 @@ fn take(rest: &mut &[u8], length: usize) -> Vec<u8> {
 
 fn take_long(rest: &mut &[u8]) -> Vec<u8> {
     let length = take(rest, 2);
-    let length = length.iter().rev().fold(0, |sum, byte| 256 * sum + *byte as usize);
+    let length = length
+        .iter()
+        .rev()
+        .fold(0, |sum, byte| 256 * sum + *byte as usize);
     take(rest, length)
 }
 
@@ -33,9 +36,18 @@ impl Parts {
         let mut rest = input;
         let lengths = take(&mut rest, 1).first().map_or(0, |byte| *byte);
         let list = take_long(&mut rest);
-        let calls = if with_calls { take_long(&mut rest) } else { Vec::new() };
+        let calls = if with_calls {
+            take_long(&mut rest)
+        } else {
+            Vec::new()
+        };
         let library = rest.to_vec();
-        Parts { lengths, list, calls, library }
+        Parts {
+            lengths,
+            list,
+            calls,
+            library,
+        }
     }
 
     pub fn input(&self, with_calls: bool) -> Vec<u8> {

@@ -2,10 +2,9 @@
 
 use std::sync::atomic::{AtomicBool, AtomicU64, Ordering::Relaxed};
 
-const NONE: AtomicU64 = AtomicU64::new(0);
 /// By refusal, acceptance at 0: of lists, and of calls.
-static LISTS: [AtomicU64; 32] = [NONE; 32];
-static CALLS: [AtomicU64; 32] = [NONE; 32];
+static LISTS: [AtomicU64; 32] = [const { AtomicU64::new(0) }; 32];
+static CALLS: [AtomicU64; 32] = [const { AtomicU64::new(0) }; 32];
 static ASKED: AtomicBool = AtomicBool::new(false);
 
 extern "C" {
@@ -14,10 +13,20 @@ extern "C" {
 
 fn words(name: &str, counts: &[AtomicU64]) {
     let numbers: Vec<u64> = counts.iter().map(|count| count.load(Relaxed)).collect();
-    let refused = numbers.iter().enumerate().skip(1).filter(|(_, count)| **count > 0);
-    let refused: Vec<String> = refused.map(|(refusal, count)| format!("{refusal} x {count}")).collect();
+    let refused = numbers
+        .iter()
+        .enumerate()
+        .skip(1)
+        .filter(|(_, count)| **count > 0);
+    let refused: Vec<String> = refused
+        .map(|(refusal, count)| format!("{refusal} x {count}"))
+        .collect();
     if numbers.iter().sum::<u64>() > 0 {
-        eprintln!("ANSWERS {name}: accepted {}; refused {}", numbers[0], refused.join(", "));
+        eprintln!(
+            "ANSWERS {name}: accepted {}; refused {}",
+            numbers[0],
+            refused.join(", ")
+        );
     }
 }
 

@@ -84,7 +84,7 @@ fn put_modes(modes: [u8; 64], out: &mut [u8; 4096], at: usize) -> usize {
 
 // `LABEL T ..`, a task's record; nothing where its state is 0.
 pub fn put_record(run: Run, task: u32, label: &[u8], out: &mut [u8; 4096], at: usize) -> usize {
-    let got = run.record(task);
+    let got = inspect::task_record(run, task);
     let answer = got.answer;
     match answer {
         Answer::Refused { refusal } => put_refused(label, task, refusal, out, at),

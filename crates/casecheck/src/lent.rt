@@ -84,7 +84,7 @@ fn put_queued(
 // The queue of a location, into 128 places.
 fn put_queue(run: Run, location: u32, out: &mut [u8; 4096], at: usize) -> usize {
     let mut places = [43690u16; 128];
-    let got = run.queue(location, &mut places);
+    let got = inspect::location_queue(run, location, &mut places);
     put_queued(b"queue", location, got, places, out, at)
 }
 
@@ -93,7 +93,7 @@ fn queue_size(run: Run, location: u32) -> usize
     ensures { λ r. ⌜ r ≤ 128 ⌝ }
 {
     let mut places = [43690u16; 128];
-    let got = run.queue(location, &mut places);
+    let got = inspect::location_queue(run, location, &mut places);
     match got {
         Queued::Refused { refusal: _ } => 0,
         Queued::Places(n) => if n < 128 { n } else { 128 },
@@ -108,7 +108,7 @@ fn put_short_queue(run: Run, location: u32, out: &mut [u8; 4096], at: usize) -> 
     }
     let end = n - 1;
     let mut places = [43690u16; 128];
-    let got = run.queue(location, &mut places[..end]);
+    let got = inspect::location_queue(run, location, &mut places[..end]);
     put_queued(b"short", location, got, places, out, at)
 }
 
@@ -179,7 +179,7 @@ fn list_size(run: Run) -> usize
     ensures { λ r. ⌜ r ≤ 4805 ⌝ }
 {
     let mut bytes = [170u8; 4805];
-    let got = run.write(&mut bytes);
+    let got = inspect::list_bytes(run, &mut bytes);
     match got {
         Written::Short => 0,
         Written::Places(n) => if n < 4805 { n } else { 4805 },
@@ -189,7 +189,7 @@ fn list_size(run: Run) -> usize
 // The writer, into 4,805 places.
 pub fn put_list(run: Run, out: &mut [u8; 4096], at: usize) -> usize {
     let mut bytes = [170u8; 4805];
-    let got = run.write(&mut bytes);
+    let got = inspect::list_bytes(run, &mut bytes);
     put_written(b"write", got, bytes, out, at)
 }
 
@@ -201,6 +201,6 @@ pub fn put_short_list(run: Run, out: &mut [u8; 4096], at: usize) -> usize {
     }
     let end = n - 1;
     let mut bytes = [170u8; 4805];
-    let got = run.write(&mut bytes[..end]);
+    let got = inspect::list_bytes(run, &mut bytes[..end]);
     put_written(b"short", got, bytes, out, at)
 }

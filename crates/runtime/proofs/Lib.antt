@@ -3,7 +3,6 @@ pub mod StateLaws
 pub mod ViewLaws
 pub mod OpenLaws
 pub mod CallLaws
-pub mod AskLaws
 pub mod StepLaws
 pub mod CarryLaws
 pub mod MadeLaws

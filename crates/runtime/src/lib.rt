@@ -95,7 +95,6 @@ pub enum Stepping {
     },
 }
 
-mod ask;
 mod calls;
 mod carry;
 mod opening;
@@ -106,3 +105,4 @@ mod step;
 pub use calls::at_end;
 pub use calls::place_of;
 pub use opening::open;
+pub use state::blank_record;

@@ -18,11 +18,11 @@ sub-end c = search needs
 array-borrow-prefix-bytes : tie.Need-array-borrow-prefix-bytes
 array-borrow-prefix-bytes c = search needs
 
-slice-aggregate-write : tie.Need-slice-aggregate-write
-slice-aggregate-write c = sym (length-take-le _ _ (search needs))
+slice-aggregate-list-bytes : tie.Need-slice-aggregate-list-bytes
+slice-aggregate-list-bytes c = sym (length-take-le _ _ (search needs))
 
-write-requires : tie.Need-write-requires
-write-requires c κs = search needs
+list-bytes-requires : tie.Need-list-bytes-requires
+list-bytes-requires c κs = search needs
 
 slice-aggregate-put-written : tie.Need-slice-aggregate-put-written
 slice-aggregate-put-written c = search needs
@@ -41,8 +41,8 @@ put-short-list-spec =
     returns
     sub-end
     array-borrow-prefix-bytes
-    slice-aggregate-write
-    write-requires
+    slice-aggregate-list-bytes
+    list-bytes-requires
     slice-aggregate-put-written
     put-written-requires
     returns-2)

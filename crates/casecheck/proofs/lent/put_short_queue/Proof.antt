@@ -18,11 +18,11 @@ sub-end c = search needs
 array-borrow-prefix-places : tie.Need-array-borrow-prefix-places
 array-borrow-prefix-places c = search needs
 
-slice-aggregate-queue : tie.Need-slice-aggregate-queue
-slice-aggregate-queue c = sym (length-take-le _ _ (search needs))
+slice-aggregate-location-queue : tie.Need-slice-aggregate-location-queue
+slice-aggregate-location-queue c = sym (length-take-le _ _ (search needs))
 
-queue-requires : tie.Need-queue-requires
-queue-requires c κs = search needs
+location-queue-requires : tie.Need-location-queue-requires
+location-queue-requires c κs = search needs
 
 slice-aggregate-put-queued : tie.Need-slice-aggregate-put-queued
 slice-aggregate-put-queued c = search needs
@@ -41,8 +41,8 @@ put-short-queue-spec =
     returns
     sub-end
     array-borrow-prefix-places
-    slice-aggregate-queue
-    queue-requires
+    slice-aggregate-location-queue
+    location-queue-requires
     slice-aggregate-put-queued
     put-queued-requires
     returns-2)

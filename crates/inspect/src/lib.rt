@@ -7,13 +7,12 @@ ghost use Rattle.tasklist.specs.Encode.{encode};
 ghost use Rattle.tasklist.specs.Tables.{list-of};
 ghost use Rattle.tasklist.specs.Answers.{written, write-answer, write-places};
 ghost use Rattle.semantics.specs.Operations.{record-asked, queue-asked};
 ghost use Rattle.runtime.specs.View.{model, context-of};
 ghost use Rattle.runtime.specs.Asked.{recorded, QueuedAs};
 ghost use Rattle.runtime.specs.Parts.{shown, all-shown};
-use crate::Queued;
-use crate::Recorded;
-use crate::Run;
-use crate::state::blank_record;
+use runtime::Queued;
+use runtime::Recorded;
+use runtime::Run;
 use semantics::Answer;
 use semantics::CallRefusal;
 use tasklist::Written;
@@ -83,57 +82,55 @@ fn put_queue(run: Run, location: usize, out: &mut [u16])
     }
 }
 
-impl Run {
-    // One task's record with its 64 modes: 9 number above 127.
-    pub fn record(self, task: u32) -> Recorded
-        ensures { λ r. ⌜ recorded r ≡ record-asked (model self) task ⌝ }
-    {
-        if 127 < task {
-            let zero = blank_record();
-            return Recorded {
-                answer: Answer::Refused {
-                    refusal: CallRefusal::Number,
-                },
-                task: zero,
-                modes: [0u8; 64],
-            };
-        }
-        let n = task as usize;
-        let own = self.records[n];
-        let modes = tables::row_of(&self.modes, n);
-        Recorded {
-            answer: Answer::Accepted,
-            task: own,
-            modes,
-        }
+// One task's record with its 64 modes: 9 number above 127.
+pub fn task_record(run: Run, task: u32) -> Recorded
+    ensures { λ r. ⌜ recorded r ≡ record-asked (model run) task ⌝ }
+{
+    if 127 < task {
+        let zero = runtime::blank_record();
+        return Recorded {
+            answer: Answer::Refused {
+                refusal: CallRefusal::Number,
+            },
+            task: zero,
+            modes: [0u8; 64],
+        };
     }
+    let n = task as usize;
+    let own = run.records[n];
+    let modes = tables::row_of(&run.modes, n);
+    Recorded {
+        answer: Answer::Accepted,
+        task: own,
+        modes,
+    }
+}
 
-    // Writes a location's queue, number + 256 * mode for each task from the front: 16 location not below C, 17 `out` too
-    // short.
-    pub fn queue(self, location: u32, out: &mut [u16]) -> Queued
-        ensures { λ r. ⌜ QueuedAs (queue-asked (context-of self) (model self) location (length (now (out .entry)))) (now (out .entry)) (now (out .exit)) r ⌝ }
-    {
-        let tables = self.tables;
-        if tables.locations as u32 <= location {
-            return Queued::Refused {
-                refusal: CallRefusal::Location,
-            };
-        }
-        let n = queue_length(self, location as usize);
-        if out.len() < n {
-            return Queued::Refused {
-                refusal: CallRefusal::Short,
-            };
-        }
-        put_queue(self, location as usize, out);
-        Queued::Places(n)
+// Writes a location's queue, number + 256 * mode for each task from the front: 16 location not below C, 17 `out` too
+// short.
+pub fn location_queue(run: Run, location: u32, out: &mut [u16]) -> Queued
+    ensures { λ r. ⌜ QueuedAs (queue-asked (context-of run) (model run) location (length (now (out .entry)))) (now (out .entry)) (now (out .exit)) r ⌝ }
+{
+    let tables = run.tables;
+    if tables.locations as u32 <= location {
+        return Queued::Refused {
+            refusal: CallRefusal::Location,
+        };
     }
+    let n = queue_length(run, location as usize);
+    if out.len() < n {
+        return Queued::Refused {
+            refusal: CallRefusal::Short,
+        };
+    }
+    put_queue(run, location as usize, out);
+    Queued::Places(n)
+}
 
-    // Writes the accepted list's own bytes: 17 `out` too short.
-    pub fn write(self, out: &mut [u8]) -> Written
-        ensures { λ r. ⌜ (written r ≡ write-answer (encode (list-of (self .tables))) (now (out .entry))) × (now (out .exit) ≡ write-places (encode (list-of (self .tables))) (now (out .entry))) ⌝ }
-    {
-        let list = self.tables;
-        listing::write(list, out)
-    }
+// Writes the accepted list's own bytes: 17 `out` too short.
+pub fn list_bytes(run: Run, out: &mut [u8]) -> Written
+    ensures { λ r. ⌜ (written r ≡ write-answer (encode (list-of (run .tables))) (now (out .entry))) × (now (out .exit) ≡ write-places (encode (list-of (run .tables))) (now (out .entry))) ⌝ }
+{
+    let list = run.tables;
+    listing::write(list, out)
 }

@@ -10,11 +10,11 @@ use lib.ListN.{length, take, getD}
 use lib.Seq.{sets, length-sets}
 use denote.Ref.{now}
 use Rattle.tasklist.proofs.WriterLaws.{Put, put-fits, put-more, put-done, put-starts}
 use Rattle.runtime.specs.Parts.{shown, shown-at, all-shown}
-use Rattle.runtime.proofs.AskLaws.{in-order, shown-here}
+use Rattle.inspect.proofs.AskLaws.{in-order, shown-here}
 use borrow.Author.Needs.{needs}
-use Rattle.runtime.proofs.ask.put_queue.Statement.{statement}
-use Rattle.runtime.proofs.ask.put_queue.Tie as tie
+use Rattle.inspect.proofs.put_queue.Statement.{statement}
+use Rattle.inspect.proofs.put_queue.Tie as tie
 
 abbrev Inv-loop : tie.InvT-loop
 Inv-loop location out₀ run left at₀ i₀ out at i =

@@ -3,15 +3,15 @@
 use Rattle.tasklist.proofs.PlaceLaws.{length-lowered}
 use Rattle.semantics.proofs.Record.{the-type as the-record}
 use Rattle.semantics.specs.Answers.{refusal-number}
 use Rattle.runtime.specs.Asked.{recorded}
 use Prim.Native.Nat.{_-_}
 use mathlib.Core.Path.{_≡_, sym}
 use native.Mathlib.Omega.{arith}
 use lib.ListN.{length}
-use Rattle.runtime.proofs.AskLaws.{record-refused, record-given}
+use Rattle.inspect.proofs.AskLaws.{record-refused, record-given}
 use borrow.Author.Needs.{needs}
-use Rattle.runtime.proofs.Run.record.Statement.{statement}
-use Rattle.runtime.proofs.Run.record.Tie as tie
+use Rattle.inspect.proofs.task_record.Statement.{statement}
+use Rattle.inspect.proofs.task_record.Tie as tie
 
 blank-record-requires : tie.Need-blank-record-requires
 blank-record-requires c κs = search needs
@@ -37,7 +37,7 @@ returns-2 c =
     let whole : length (run .records) ≡ 128 = length-lowered (the-record .to) (run .records) 128 (c .before .before .before .before .before .good .0 .1 .1 .1 .1 .0 .1 .0 .1) in
     record-given run (c .before .before .before .before .before .args .task) (c .row-of .result) (omega arith) whole (c .row-of .ensures (search needs) (omega arith))
 
-pub record-spec : {M : Type 1} → statement M
-record-spec =
+pub task-record-spec : {M : Type 1} → statement M
+task-record-spec =
     tie.close
     (tie.spec blank-record-requires returns mul-own element-copy-out-own row-of-requires returns-2)

@@ -6,11 +6,11 @@ use native.Mathlib.Omega.{arith}
 use native.Mathlib.Nat.{zero-add}
 use lib.ListN.{length, take}
 use Rattle.tasklist.proofs.WriterLaws.{rest-from}
 use Rattle.runtime.specs.Parts.{shown-at, all-shown}
-use Rattle.runtime.proofs.AskLaws.{count-more, count-done}
+use Rattle.inspect.proofs.AskLaws.{count-more, count-done}
 use borrow.Author.Needs.{needs}
-use Rattle.runtime.proofs.ask.queue_length.Statement.{statement}
-use Rattle.runtime.proofs.ask.queue_length.Tie as tie
+use Rattle.inspect.proofs.queue_length.Statement.{statement}
+use Rattle.inspect.proofs.queue_length.Tie as tie
 
 abbrev Inv-loop : tie.InvT-loop
 Inv-loop location run left n₀ i₀ n i =

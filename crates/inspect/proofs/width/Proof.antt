@@ -3,10 +3,10 @@
 use Prim.Native.Nat.{_-_}
 use mathlib.Core.Path.{sym, ap}
 use lib.ListN.{length}
-use Rattle.runtime.proofs.AskLaws.{shown-none, shown-one}
+use Rattle.inspect.proofs.AskLaws.{shown-none, shown-one}
 use borrow.Author.Needs.{needs}
-use Rattle.runtime.proofs.ask.width.Statement.{statement}
-use Rattle.runtime.proofs.ask.width.Tie as tie
+use Rattle.inspect.proofs.width.Statement.{statement}
+use Rattle.inspect.proofs.width.Tie as tie
 
 returns : tie.Need-returns
 returns c =

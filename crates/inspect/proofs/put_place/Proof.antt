@@ -6,10 +6,10 @@ use native.Mathlib.Omega.{arith}
 use lib.ListN.{length}
 use lib.Seq.{sets}
 use denote.Ref.{now}
-use Rattle.runtime.proofs.AskLaws.{shown-none, shown-one}
+use Rattle.inspect.proofs.AskLaws.{shown-none, shown-one}
 use borrow.Author.Needs.{needs}
-use Rattle.runtime.proofs.ask.put_place.Statement.{statement}
-use Rattle.runtime.proofs.ask.put_place.Tie as tie
+use Rattle.inspect.proofs.put_place.Statement.{statement}
+use Rattle.inspect.proofs.put_place.Tie as tie
 
 returns : tie.Need-returns
 returns c =

@@ -68,9 +68,9 @@ fn size_of(read: FileRead) -> usize
     }
 }
 
-// Feeds a piece where there is room for all its lines: the whole of it is used.
+// Feeds a piece that is not too long, where there is room for all its lines: the whole of it is used.
 fn fed_whole(run: Run, pending: Pending, piece: &[u8], out: &mut [u8]) -> Fed
-    requires { ⌜ 3 * (length (now piece) / 2 + 1) ≤ length (now out) ⌝ }
+    requires { ⌜ (length (now piece) ≤ 511) × (4 * (length (now piece) / 2 + 1) ≤ length (now out)) ⌝ }
     ensures { λ r. ⌜ FedAs run pending (now (piece .entry)) (now (out .entry)) (now (out .exit)) r × (r .used ≡ length (now (piece .entry))) ⌝ }
 {
     transcript::feed(run, pending, piece, out)
@@ -78,7 +78,7 @@ fn fed_whole(run: Run, pending: Pending, piece: &[u8], out: &mut [u8]) -> Fed
 
 // Reads a piece of the input, makes its calls and prints their lines. A read that fails counts as the input's end.
 fn take_turn(run: Run, pending: Pending) -> Turn {
-    let mut piece = io::buffer();
+    let mut piece = [0u8; 511];
     let got = libc::read(STDIN_FILENO, &mut piece);
     let n = io::count(got, &piece);
     if n == 0 {
@@ -88,7 +88,7 @@ fn take_turn(run: Run, pending: Pending) -> Turn {
             more: false,
         };
     }
-    let mut out = [0u8; 8192];
+    let mut out = [0u8; 1024];
     let fed = fed_whole(run, pending, &piece[..n], &mut out);
     let wrote = fed.wrote;
     io::write_all(STDOUT_FILENO, &out[..wrote]);

@@ -3,10 +3,9 @@
 use Prim.Native.Nat.{ℕ}
 use mathlib.Core.Path.{_≡_, refl, ap, _∙_}
 use mathlib.Core.List.{List, [], _∷_}
-use mathlib.Core.Bool.{true}
 use Rattle.tasklist.specs.TaskList.{body-of, footprint-of, instruction-of, total, adds, count-body, count-from, counts, task-count}
 use Rattle.tasklist.specs.Encode.{joined, instruction-fields}
-use Rattle.tasklist.specs.Decode.{decode, accepted}
+use Rattle.tasklist.specs.Decode.{accepted}
 use Rattle.tasklist.proofs.Cases.{P, P-bytes, P-decodes}
 use Rattle.library.specs.Library.{number-of, numbers-of, memory-of}
 use Rattle.semantics.specs.Run.{no-modes, never, fixed-weights, weight-of, root-modes, root, initial, context}
@@ -16,10 +15,9 @@ use Rattle.semantics.specs.Plan.{unless-fault, plan-load, plan-store, plan-wait
 use Rattle.semantics.specs.Call.{hold, admit, settle, among, decide, edited, written, splice, stays, places, changes, apply, taken, call, after, after-all}
 use Rattle.semantics.specs.Operations.{with-list}
 use Rattle.semantics.specs.Answers.{outcome-number}
-use Rattle.semantics.specs.Case.{same}
 use Rattle.runtime.specs.Calls.{calls-of-kind}
-use Rattle.transcript.specs.Transcript as Lines
-use Rattle.transcript.specs.Transcript.{digits-within, digits, followed, totals, closing, lines-from, refused-line, printed, transcript}
+use Rattle.lent.specs.Lines.{calls-in, line, lines}
+use Rattle.transcript.specs.Transcript.{digits-within, digits, followed, totals, closing, lines-from, printed, transcript}
 
 -- library.bin: 5, 7
 abbrev pub P-library : List ℕ
@@ -39,7 +37,7 @@ unfolding memory-of numbers-of number-of
 P-memory = refl
 
 P-run : lines-from (context P) (initial (context P) (5 ∷ 7 ∷ [])) P-input ≡ P-lines
-unfolding body-of footprint-of instruction-of total adds count-body count-from counts task-count no-modes never fixed-weights weight-of root-modes root initial every only ahead queue compatible allowed access-fault unless-fault plan-load plan-store plan-wait passed-over targets all-targets twice first-fault unless-denied grant child-modes child-number plan-spawn plan-instruction step-weight at-end needs-from plan-start plan-step plan-end plan hold admit settle among decide edited written splice stays places changes apply taken call after after-all outcome-number calls-of-kind joined digits-within digits followed Lines.number-of totals closing lines-from instruction-fields
+unfolding body-of footprint-of instruction-of total adds count-body count-from counts task-count no-modes never fixed-weights weight-of root-modes root initial every only ahead queue compatible allowed access-fault unless-fault plan-load plan-store plan-wait passed-over targets all-targets twice first-fault unless-denied grant child-modes child-number plan-spawn plan-instruction step-weight at-end needs-from plan-start plan-step plan-end plan hold admit settle among decide edited written splice stays places changes apply taken call after after-all outcome-number calls-of-kind calls-in line lines joined digits-within digits followed totals closing lines-from instruction-fields
 P-run = refl
 
 pub P-prints : transcript P-bytes P-library P-input ≡ P-lines

@@ -1,348 +1,266 @@
 -- Laws of the calls of the input and its pieces. Assumes nothing.
-use Prim.Native.Nat.{ℕ, zero, suc, _+_, _*_, _-_, _/_, _≤_, _<_, zero-le}
+use Prim.Native.Nat.{ℕ, zero, suc, _+_, _*_, _-_, _/_, _%_, _≤_, _<_, zero-le}
 use mathlib.Core.Path.{_≡_, refl, sym, ap, subst, _∙_}
 use mathlib.Core.List.{List, [], _∷_, _++_, append-assoc}
+use mathlib.Core.Bool.{Bool, true, false, cond, _||_}
 use native.Mathlib.Omega.{arith}
 use native.Mathlib.Numerals.{add-one}
-use native.Mathlib.Nat.{zero-add}
-use lib.ListN.{length, take, drop, getD, length-append, drop-of-length-le}
-use lib.Seq.{sets, sets-eq, length-sets, length-take-le, take-at, drop-at, drop-cons, drop-drop, take-length, take-all}
-use mathlib.Core.Bool.{Bool, true, false}
-use lib.Dec.{leb}
-use borrow.Author.Tests.{le-leb, lt-leb, leb-true, leb-false}
-use Rattle.tasklist.specs.Tables.{list-of}
-use Rattle.semantics.specs.Run.{Context, context}
+use lib.ListN.{length, take, getD, set, length-append, length-take}
+use lib.Seq.{sets, length-sets, length-take-le, take-length, take-all, take-take, take-nil, take-suc, take-suc-set, getD-take}
+use lib.Dec.{ltb}
+use borrow.Author.Tests.{lt-ltb, le-ltb, ltb-false}
+use Rattle.tasklist.specs.Encode.{joined}
+use Rattle.semantics.specs.Run.{Context}
 use Rattle.semantics.specs.Run as Semantics
-use Rattle.semantics.specs.Plan.{Action, start, step, «end»}
 use Rattle.semantics.specs.Call.{after-all}
-use Rattle.semantics.specs.Answers.{answer-number}
 use Rattle.runtime.specs.declared.Run.{Run}
-use Rattle.runtime.specs.declared.Called.{Called}
 use Rattle.runtime.specs.View.{model, context-of, SoundRun}
-use Rattle.runtime.specs.Calls.{call-of, CalledAs}
-use Rattle.runtime.specs.Calls.{calls-of-kind}
-use Rattle.runtime.proofs.MadeLaws.{other-kind}
-use Rattle.transcript.specs.declared.Made.{Made}
+use Rattle.runtime.specs.Calls.{calls-of-kind, CallsMade}
+use Rattle.runtime.proofs.MadeLaws.{no-calls}
+use Rattle.lent.proofs.PieceLaws.{false-true}
+use Rattle.lent.specs.declared.Lent.{Lent}
+use Rattle.lent.specs.Lines.{calls-in, lines}
+use Rattle.lent.specs.Pieces.{LentOf}
 use Rattle.transcript.specs.declared.Pending.{Pending}
 use Rattle.transcript.specs.declared.Pending.the-variants.{Nothing, Kind}
-use Rattle.transcript.specs.declared.Fed.{Fed}
-use Rattle.transcript.specs.Transcript.{digits, followed, line, number-of, call-line, call-run}
-use Rattle.transcript.specs.Promises.{MadeAs, whole-lines, whole-run, half-of, pending-bytes, PairedWith, PairedAs, used-of, FedAs}
-use Rattle.transcript.proofs.DigitLaws.{digits-two, followed-length}
+use Rattle.transcript.specs.declared.Joined.{Joined}
+use Rattle.transcript.specs.Transcript.{line}
+use Rattle.transcript.specs.Promises.{Wrote, whole-of, half-of, pending-bytes, JoinedAs, exceeds, used-of, FedWith, FedAs}
+use Rattle.transcript.proofs.DigitLaws.{digits-two, digits-three, followed-length}
+use Rattle.transcript.proofs.ClosingLaws.{wrote-none, wrote-all}
 
--- One call, by its kind
-module _ (run : Run) (kind n number : ℕ) where
-  by-action :
-      (a : Action) → calls-of-kind kind n ≡ call-of a n ∷ [] → (done : Called) → CalledAs a run n done
-      → number ≡ answer-number (done .answer) → number ≤ 17 → MadeAs kind n run (record { number = number; run = done .run })
-  unfolding number-of after-all
-  by-action a q done h e m =
-      record {
-        number = λ s. e ∙ h .answer s ∙ sym (ap (number-of (context-of run) (model run)) q);
-        run = λ s. h .run s ∙ sym (ap (after-all (context-of run) (model run)) q);
-        sound = h .sound;
-        list = h .list;
-        most = omega arith;
-      }
-
-  pub made-start :
-      kind ≡ 0 → (done : Called) → CalledAs start run n done → number ≡ answer-number (done .answer) → number ≤ 17
-      → MadeAs kind n run (record { number = number; run = done .run })
-  unfolding calls-of-kind
-  made-start q = by-action start (ap (λ k. calls-of-kind k n) q)
-
-  pub made-step :
-      kind ≡ 1 → (done : Called) → CalledAs step run n done → number ≡ answer-number (done .answer) → number ≤ 17
-      → MadeAs kind n run (record { number = number; run = done .run })
-  unfolding calls-of-kind
-  made-step q = by-action step (ap (λ k. calls-of-kind k n) q)
-
-  pub made-end :
-      kind ≡ 2 → (done : Called) → CalledAs «end» run n done → number ≡ answer-number (done .answer) → number ≤ 17
-      → MadeAs kind n run (record { number = number; run = done .run })
-  unfolding calls-of-kind
-  made-end q = by-action «end» (ap (λ k. calls-of-kind k n) q)
-
-pub made-none :
-    (run : Run) (kind n : ℕ) → (kind ≡ 0 → ⊥) → (kind ≡ 1 → ⊥) → (kind ≡ 2 → ⊥)
-    → MadeAs kind n run (record { number = 18; run = run })
-unfolding number-of after-all
-made-none run kind n p q s =
-    let none = other-kind kind n p q s in
-    record {
-      number = λ s. sym (ap (number-of (context-of run) (model run)) none);
-      run = λ s. sym (ap (after-all (context-of run) (model run)) none);
-      sound = λ s. s;
-      list = refl;
-      most = omega arith;
-    }
-
--- a line of a call has at most 3 bytes
+-- a line of a call has at most 3 bytes, one of any byte at most 4
 pub line-most : (n : ℕ) → n ≤ 18 → length (line n) ≤ 3
 line-most n h = omega (arith, followed-length n 10, digits-two n (omega arith))
 
--- bytes put at a place: what stands before their end, and behind it
-module _ (out bytes : List ℕ) (at : ℕ) (fits : at + length bytes ≤ length out) where
-  before-long : length (take at out ++ bytes) ≡ at + length bytes
-  before-long = length-append (take at out) bytes ∙ ap (λ k. k + length bytes) (length-take-le at out (omega arith))
+pub byte-line-most : (n : ℕ) → n < 256 → length (line n) ≤ 4
+byte-line-most n h = omega (arith, followed-length n 10, digits-three n (omega arith))
 
-  pub take-put : take (at + length bytes) (sets out at bytes) ≡ take at out ++ bytes
-  take-put = ap (take (at + length bytes)) (sets-eq bytes out at fits)
-      ∙ take-at (take at out ++ bytes) (drop (at + length bytes) out) (at + length bytes) before-long
+-- The calls that are whole, and the byte left over
+pub half-even : (l : List ℕ) → length l % 2 ≡ 0 → half-of l ≡ []
+unfolding half-of
+half-even [] h = refl
+half-even (k ∷ []) h = let z : ⊥ = omega (arith, h) in absurd z
+half-even (k ∷ n ∷ l) h = half-even l (omega (arith, h))
 
-  pub drop-put : drop (at + length bytes) (sets out at bytes) ≡ drop (at + length bytes) out
-  drop-put = ap (drop (at + length bytes)) (sets-eq bytes out at fits)
-      ∙ drop-at (take at out ++ bytes) (drop (at + length bytes) out) (at + length bytes) before-long
+last-further : (k n : ℕ) (l : List ℕ) → 0 < length l → getD l (length l - 1) 0 ≡ getD (k ∷ n ∷ l) (length (k ∷ n ∷ l) - 1) 0
+last-further k n [] h = let z : ⊥ = omega (arith, h) in absurd z
+last-further k n (x ∷ l) h =
+    let here : length (x ∷ l) - 1 ≡ length l = omega arith in
+    let there : suc (suc (length l)) ≡ length (k ∷ n ∷ x ∷ l) - 1 = omega arith in
+    ap (λ j. getD (x ∷ l) j 0) here ∙ ap (λ j. getD (k ∷ n ∷ x ∷ l) j 0) there
 
--- a longer part dropped of two lists that end alike
-drop-further : (a b : List ℕ) (m n : ℕ) → m ≤ n → drop m a ≡ drop m b → drop n a ≡ drop n b
-drop-further a b m n h e =
-    let k : m + (n - m) ≡ n = omega arith in
-    ap (λ j. drop j a) (sym k) ∙ sym (drop-drop (n - m) m a) ∙ ap (drop (n - m)) e ∙ drop-drop (n - m) m b ∙ ap (λ j. drop j b) k
+pub half-odd : (l : List ℕ) → length l % 2 ≡ 1 → half-of l ≡ getD l (length l - 1) 0 ∷ []
+unfolding half-of
+half-odd [] h = let z : ⊥ = omega (arith, h) in absurd z
+half-odd (k ∷ []) h = refl
+half-odd (k ∷ n ∷ l) h =
+    let r : length l % 2 ≡ 1 = omega (arith, h) in
+    half-odd l r ∙ ap (λ x. x ∷ []) (last-further k n l (omega (arith, r)))
 
-nil-right : (l : List ℕ) → l ++ [] ≡ l
-nil-right [] = refl
-nil-right (x ∷ l) = ap (λ k. x ∷ k) (nil-right l)
+pub whole-take : (l : List ℕ) → whole-of l ≡ take (2 * (length l / 2)) l
+unfolding whole-of
+whole-take [] = sym (take-nil (2 * (0 / 2)))
+whole-take (k ∷ []) = refl
+whole-take (k ∷ n ∷ l) =
+    let e : suc (suc (2 * (length l / 2))) ≡ 2 * (suc (suc (length l)) / 2) = omega arith in
+    ap (λ xs. k ∷ n ∷ xs) (whole-take l) ∙ ap (λ j. take j (k ∷ n ∷ l)) e
 
--- other than one byte is left: two at least
-pub two-left : (n i : ℕ) → i < n → (n - i ≡ 1 → ⊥) → i + 2 ≤ n
-two-left n i h apart = by-test (leb (i + 2) n) refl
-  where
-    by-test : (t : Bool) → leb (i + 2) n ≡ t → i + 2 ≤ n
-    by-test true e = leb-true (i + 2) n e
-    by-test false e = let few = leb-false (i + 2) n e in absurd (apart (omega arith))
+pub whole-calls : (l : List ℕ) → calls-in (whole-of l) ≡ calls-in l
+unfolding whole-of calls-in
+whole-calls [] = refl
+whole-calls (k ∷ []) = refl
+whole-calls (k ∷ n ∷ l) = ap (λ cs. calls-of-kind k n ++ cs) (whole-calls l)
 
--- the next two bytes, and the next one
-pub two-bytes : (l : List ℕ) (i : ℕ) → i + 2 ≤ length l → drop i l ≡ getD l i 0 ∷ getD l (i + 1) 0 ∷ drop (i + 2) l
-two-bytes l i h =
-    let one : suc i ≡ i + 1 = omega arith in
-    let two : suc (i + 1) ≡ i + 2 = omega arith in
-    drop-cons l i 0 (omega arith)
-    ∙ ap (λ k. getD l i 0 ∷ drop k l) one
-    ∙ ap (λ r. getD l i 0 ∷ r) (drop-cons l (i + 1) 0 (omega arith) ∙ ap (λ k. getD l (i + 1) 0 ∷ drop k l) two)
+pub lines-count : (c : Context) (r : Semantics.Run) (l : List ℕ) → length (lines c r (whole-of l)) ≡ length l / 2
+unfolding whole-of lines
+lines-count c r [] = refl
+lines-count c r (k ∷ []) = refl
+lines-count c r (k ∷ n ∷ l) = let e = lines-count c (after-all c r (calls-of-kind k n)) l in omega (arith, e)
 
-pub last-byte : (l : List ℕ) (i : ℕ) → length l - i ≡ 1 → drop i l ≡ getD l i 0 ∷ []
-last-byte l i h = drop-cons l i 0 (omega arith) ∙ ap (λ r. getD l i 0 ∷ r) (drop-of-length-le l {i = suc i} (omega arith))
+-- as many places as a part has are that part
+pub part-long : (n m : ℕ) (l : List ℕ) → length (take n l) ≡ m → take m l ≡ take n l
+part-long zero m l e = ap (λ j. take j l) (sym e)
+part-long (suc n) m [] e = take-nil m
+part-long (suc n) zero (x ∷ l) e = let z : ⊥ = omega (arith, e) in absurd z
+part-long (suc n) (suc m) (x ∷ l) e = ap (λ xs. x ∷ xs) (part-long n m l (omega (arith, e)))
 
--- The calls from place i₀ up to place i were made on the run `from`, which left r, and their lines put up to `at`.
-pub record Going (from : Run) (piece : List ℕ) (i₀ start : ℕ) (before : List ℕ) (r : Run) (i at : ℕ) (out : List ℕ) : Type 0 where
-  pub lines : SoundRun from → take at out ++ whole-lines (context-of from) (model r) (drop i piece)
-      ≡ take start before ++ whole-lines (context-of from) (model from) (drop i₀ piece)
-  pub run : SoundRun from → whole-run (context-of from) (model r) (drop i piece) ≡ whole-run (context-of from) (model from) (drop i₀ piece)
-  pub sound : SoundRun from → SoundRun r
-  pub list : r .tables ≡ from .tables
-  pub half : half-of (drop i piece) ≡ half-of (drop i₀ piece)
-  pub rest : drop at out ≡ drop at before
-  pub low : start ≤ at
-  pub long : length out ≡ length before
-  pub inside : i ≤ length piece
-  pub room : at + 3 * ((length piece - i) / 2) ≤ length out
+part-short : (n m : ℕ) (l : List ℕ) → n ≤ m → take m (take n l) ≡ take n l
+part-short n m l h = take-all m (take n l) (omega (arith, length-take n l))
 
-same-context : (r from : Run) → r .tables ≡ from .tables → context-of r ≡ context-of from
-same-context r from q = ap (λ t. context (list-of t)) q
-
-module _ (from : Run) (piece : List ℕ) (i₀ start : ℕ) (before : List ℕ) where
-  pub going-starts :
-      i₀ ≤ length piece → start + 3 * ((length piece - i₀) / 2) ≤ length before → Going from piece i₀ start before from i₀ start before
-  going-starts h k =
-      record {
-        lines = λ s. refl;
-        run = λ s. refl;
-        sound = λ s. s;
-        list = refl;
-        half = refl;
-        rest = refl;
-        low = omega arith;
-        long = refl;
-        inside = h;
-        room = k;
-      }
-
-  module _ (r : Run) (i at : ℕ) (out : List ℕ) (g : Going from piece i₀ start before r i at out) where
-    pub going-fits : i + 2 ≤ length piece → (n : ℕ) → n ≤ 18 → at + length (line n) ≤ length out
-    going-fits h n m = omega (arith, line-most n m, g .room)
-
-    -- one more call
-    pub going-more :
-        i + 2 ≤ length piece → (done : Made) → MadeAs (getD piece i 0) (getD piece (i + 1) 0) r done
-        → (new : List ℕ) (next : ℕ) → new ≡ sets out at (line (done .number)) → next ≡ at + length (line (done .number))
-        → Going from piece i₀ start before (done .run) (i + 2) next new
-    unfolding whole-lines whole-run half-of
-    going-more h done m new next e q =
-        record {
-          lines =
-              λ s.
-              ap (λ k. take k new ++ w s) q
-              ∙ ap (λ o. take (at + length l) o ++ w s) e
-              ∙ ap (λ x. x ++ w s) (take-put out l at fits)
-              ∙ append-assoc (take at out) l (w s)
-              ∙ ap (λ x. take at out ++ x)
-              (ap (λ k. line k ++ w s) (number s)
-              ∙ ap (λ x. line (number-of c (model r) (calls-of-kind kind n)) ++ whole-lines c x (drop (i + 2) piece)) (after s))
-              ∙ ap (λ b. take at out ++ whole-lines c (model r) b) (sym both)
-              ∙ g .lines s;
-          run =
-              λ s. ap (λ x. whole-run c x (drop (i + 2) piece)) (after s) ∙ ap (whole-run c (model r)) (sym both) ∙ g .run s;
-          sound = λ s. m .sound (g .sound s);
-          list = m .list ∙ g .list;
-          half = ap half-of (sym both) ∙ g .half;
-          rest =
-              ap (λ k. drop k new) q ∙ ap (drop (at + length l)) e ∙ drop-put out l at fits
-              ∙ drop-further out before at (at + length l) (omega arith) (g .rest)
-              ∙ ap (λ k. drop k before) (sym q);
-          low = omega (arith, g .low);
-          long = ap length e ∙ length-sets out at l ∙ g .long;
-          inside = h;
-          room = omega (arith, ap length e, length-sets out at l, line-most (done .number) (m .most), g .room);
-        }
-      where
-        c : Context
-        c = context-of from
-
-        kind : ℕ
-        kind = getD piece i 0
-
-        n : ℕ
-        n = getD piece (i + 1) 0
-
-        l : List ℕ
-        l = line (done .number)
-
-        w : SoundRun from → List ℕ
-        w s = whole-lines c (model (done .run)) (drop (i + 2) piece)
-
-        fits : at + length l ≤ length out
-        fits = going-fits h (done .number) (m .most)
-
-        both : drop i piece ≡ kind ∷ n ∷ drop (i + 2) piece
-        both = two-bytes piece i h
-
-        number : SoundRun from → done .number ≡ number-of c (model r) (calls-of-kind kind n)
-        number s = m .number (g .sound s) ∙ ap (λ x. number-of x (model r) (calls-of-kind kind n)) (same-context r from (g .list))
-
-        after : SoundRun from → model (done .run) ≡ call-run c (model r) kind n
-        after s = m .run (g .sound s) ∙ ap (λ x. call-run x (model r) kind n) (same-context r from (g .list))
-
-    -- the calls up to here, then those behind
-    pub going-then : (after : List ℕ) (f : Fed) → PairedWith r (drop i piece) at out after f → PairedWith from (drop i₀ piece) start before after f
-    going-then after f p =
-        record {
-          lines =
-              λ s.
-              p .lines (g .sound s)
-              ∙ ap (λ x. take at out ++ whole-lines x (model r) (drop i piece)) (same-context r from (g .list))
-              ∙ g .lines s;
-          run = λ s. p .run (g .sound s) ∙ ap (λ x. whole-run x (model r) (drop i piece)) (same-context r from (g .list)) ∙ g .run s;
-          sound = λ s. p .sound (g .sound s);
-          list = p .list ∙ g .list;
-          pending = p .pending ∙ g .half;
-          rest = p .rest ∙ drop-further out before at (f .wrote) (p .low) (g .rest);
-          low = omega (arith, p .low, g .low);
-          long = p .long ∙ g .long;
-          within = p .within;
-        }
-
--- no whole call is left
-pub still :
-    (r : Run) (p : Pending) (at used : ℕ) (out : List ℕ) → at ≤ length out
-    → PairedWith r (pending-bytes p ++ []) at out out (record { run = r; pending = p; used = used; wrote = at })
-unfolding whole-lines whole-run half-of pending-bytes
-still r Nothing at used out h =
-    record {
-      lines = λ s. sym (nil-right (take at out));
-      run = λ s. refl;
-      sound = λ s. s;
-      list = refl;
-      pending = refl;
-      rest = refl;
-      low = omega arith;
-      long = refl;
-      within = h;
-    }
-still r (Kind k) at used out h =
-    record {
-      lines = λ s. sym (nil-right (take at out));
-      run = λ s. refl;
-      sound = λ s. s;
-      list = refl;
-      pending = refl;
-      rest = refl;
-      low = omega arith;
-      long = refl;
-      within = h;
-    }
-
-module _ (from : Run) (piece : List ℕ) (i₀ start : ℕ) (before : List ℕ) (r : Run) (i at : ℕ) (out : List ℕ)
-    (g : Going from piece i₀ start before r i at out) where
-  -- a byte is left over
-  pub paired-half :
-      length piece - i ≡ 1
-      → PairedAs from piece i₀ start before out (record { run = r; pending = Kind (getD piece i 0); used = length piece; wrote = at })
+-- the byte left over at the end of an array's part
+module _ (bytes : List ℕ) (count : ℕ) (fit : count ≤ length bytes) where
+  pub left-none : count % 2 ≡ 0 → pending-bytes Nothing ≡ half-of (take count bytes)
   unfolding pending-bytes
-  paired-half h =
-      record {
-        used = refl;
-        paired =
-            going-then from piece i₀ start before r i at out g out (record { run = r; pending = Kind (getD piece i 0); used = length piece; wrote = at })
-            (subst (λ b. PairedWith r b at out out (record { run = r; pending = Kind (getD piece i 0); used = length piece; wrote = at }))
-            (sym (last-byte piece i h)) (still r (Kind (getD piece i 0)) at (length piece) out (omega (arith, g .room))));
-      }
+  left-none h = sym (half-even (take count bytes) (ap (λ n. n % 2) (length-take-le count bytes fit) ∙ h))
 
-  -- none is
-  pub paired-whole :
-      length piece ≤ i → PairedAs from piece i₀ start before out (record { run = r; pending = Nothing; used = length piece; wrote = at })
+  pub left-one : (count % 2 ≡ 0 → ⊥) → pending-bytes (Kind (getD bytes (count - 1) 0)) ≡ half-of (take count bytes)
   unfolding pending-bytes
-  paired-whole h =
-      record {
-        used = refl;
-        paired =
-            going-then from piece i₀ start before r i at out g out (record { run = r; pending = Nothing; used = length piece; wrote = at })
-            (subst (λ b. PairedWith r b at out out (record { run = r; pending = Nothing; used = length piece; wrote = at }))
-            (sym (drop-of-length-le piece h)) (still r Nothing at (length piece) out (omega (arith, g .room))));
-      }
+  left-one h =
+      let long = length-take-le count bytes fit in
+      let odd = odd-of count h in
+      ap (λ x. x ∷ []) (sym (getD-take count bytes (count - 1) 0 (omega (arith, odd))) ∙ ap (λ j. getD (take count bytes) (j - 1) 0) (sym long))
+      ∙ sym (half-odd (take count bytes) (ap (λ n. n % 2) long ∙ odd))
+    where
+      odd-of : (n : ℕ) → (n % 2 ≡ 0 → ⊥) → n % 2 ≡ 1
+      odd-of n k = omega (arith, k)
+
+-- a piece copied behind a byte
+pub copied-more :
+    (front piece bytes : List ℕ) (from i : ℕ) → from + i < length bytes → i < length piece → take (from + i) bytes ≡ front ++ take i piece
+    → take (from + (i + 1)) (set bytes (from + i) (getD piece i 0)) ≡ front ++ take (i + 1) piece
+copied-more front piece bytes from i h k e =
+    let x = getD piece i 0 in
+    let one : from + (i + 1) ≡ suc (from + i) = omega arith in
+    ap (λ j. take j (set bytes (from + i) x)) one
+    ∙ take-suc-set bytes (from + i) x h
+    ∙ ap (λ l. l ++ (x ∷ [])) e
+    ∙ append-assoc front (take i piece) (x ∷ [])
+    ∙ ap (λ l. front ++ l) (sym (ap (λ j. take j piece) (add-one i) ∙ take-suc piece i 0 k))
+
+pub copied-none : (first from : ℕ) (bytes : List ℕ) → from ≤ 1 → 0 < length bytes → take (from + 0) (set bytes 0 first) ≡ take from (first ∷ []) ++ []
+copied-none first from [] h k = let z : ⊥ = omega (arith, k) in absurd z
+copied-none first zero (x ∷ bytes) h k = refl
+copied-none first (suc zero) (x ∷ bytes) h k = refl
+copied-none first (suc (suc n)) (x ∷ bytes) h k = let z : ⊥ = omega (arith, h) in absurd z
+
+pub copied-all :
+    (first from i : ℕ) (piece bytes : List ℕ) → from ≤ 1 → length piece ≤ 511 → i ≡ length piece → length bytes ≡ 512
+    → take (from + i) bytes ≡ take from (first ∷ []) ++ take i piece
+    → JoinedAs (take from (first ∷ []) ++ piece) (record { bytes = bytes; count = from + length piece })
+copied-all first from i piece bytes h k q long e =
+    record {
+      count =
+          sym
+          (length-append (take from (first ∷ [])) piece
+          ∙ ap (λ n. n + length piece) (length-take-le from (first ∷ []) h));
+      places =
+          ap (λ n. take (from + n) bytes) (sym q)
+          ∙ e
+          ∙ ap (λ l. take from (first ∷ []) ++ l) (ap (λ n. take n piece) q ∙ take-length piece);
+      most = omega (arith, h, k);
+      long = long;
+    }
 
 -- A piece behind the byte that waited
+pub exceeds-long : (n m : ℕ) → 511 < n → exceeds n m ≡ true
+unfolding exceeds
+exceeds-long n m h = rw (lt-ltb 511 n h) refl
+
+pub exceeds-room : (n m : ℕ) → n ≤ 511 → m / 4 ≤ n / 2 → exceeds n m ≡ true
+unfolding exceeds
+exceeds-room n m h k = rw (le-ltb 511 n h, lt-ltb m (4 * (n / 2 + 1)) (omega (arith, k))) refl
+
+pub exceeds-none : (n m : ℕ) → n ≤ 511 → 4 * (n / 2 + 1) ≤ m → exceeds n m ≡ false
+unfolding exceeds
+exceeds-none n m h k = rw (le-ltb 511 n h, le-ltb m (4 * (n / 2 + 1)) k) refl
+
+pub within-both : (n m : ℕ) → exceeds n m ≡ false → (n ≤ 511) × (4 * (n / 2 + 1) ≤ m)
+unfolding exceeds
+within-both n m h = by-tests (ltb 511 n) refl (ltb m (4 * (n / 2 + 1))) refl h
+  where
+    by-tests : (a : Bool) → ltb 511 n ≡ a → (b : Bool) → ltb m (4 * (n / 2 + 1)) ≡ b → (a || b) ≡ false → (n ≤ 511) × (4 * (n / 2 + 1) ≤ m)
+    by-tests false e false f h = (ltb-false 511 n e, ltb-false m (4 * (n / 2 + 1)) f)
+    by-tests false e true f h = absurd (false-true (sym h))
+    by-tests true e b f h = absurd (false-true (sym h))
+
+-- the byte that waited is one more at most
+pub joined-room :
+    (p : Pending) (piece : List ℕ) (m count : ℕ) → exceeds (length piece) m ≡ false → count ≡ length (pending-bytes p ++ piece) → 4 * (count / 2) ≤ m
+unfolding pending-bytes
+joined-room Nothing piece m count h e = omega (arith, within-both (length piece) m h .1, e)
+joined-room (Kind k) piece m count h e = omega (arith, within-both (length piece) m h .1, e)
+
+-- the two ways of a piece into the array
+pub joined-alone : (p : Pending) (piece : List ℕ) (r : Joined) → p ≡ Nothing → JoinedAs piece r → JoinedAs (pending-bytes p ++ piece) r
+unfolding pending-bytes
+joined-alone p piece r q h = subst (λ x. JoinedAs (pending-bytes x ++ piece) r) (sym q) h
+
+pub joined-behind : (p : Pending) (piece : List ℕ) (k : ℕ) (r : Joined) → p ≡ Kind k → JoinedAs (k ∷ piece) r → JoinedAs (pending-bytes p ++ piece) r
+unfolding pending-bytes
+joined-behind p piece k r q h = subst (λ x. JoinedAs (pending-bytes x ++ piece) r) (sym q) h
+
 module _ (run : Run) (p : Pending) (piece out : List ℕ) where
-  pub short-of-room : length out / 3 ≤ length piece / 2 → used-of piece out ≡ 0
+  pub used-none : exceeds (length piece) (length out) ≡ true → used-of piece out ≡ 0
   unfolding used-of
-  short-of-room h = rw (lt-leb (3 * (length piece / 2 + 1)) (length out) (omega arith)) refl
+  used-none h = ap (λ b. cond b 0 (length piece)) h
 
-  pub all-used : length piece / 2 < length out / 3 → used-of piece out ≡ length piece
+  pub used-all : exceeds (length piece) (length out) ≡ false → used-of piece out ≡ length piece
   unfolding used-of
-  all-used h = rw (le-leb (3 * (length piece / 2 + 1)) (length out) (omega arith)) refl
+  used-all h = ap (λ b. cond b 0 (length piece)) h
 
-  pub fed-idle : used-of piece out ≡ 0 → FedAs run p piece out out (record { run = run; pending = p; used = 0; wrote = 0 })
-  fed-idle e = record { used = sym e; fed = still run p 0 0 out (omega arith); whole = refl }
+  pub fed-idle : exceeds (length piece) (length out) ≡ true → FedAs run p piece out out (record { run = run; pending = p; used = 0; wrote = 0 })
+  fed-idle h = record { used = sym (used-none h); fed = still p }
+    where
+      still : (q : Pending) → FedWith run (pending-bytes q ++ []) out out (record { run = run; pending = q; used = 0; wrote = 0 })
+      still Nothing =
+          unfold pending-bytes half-of whole-of calls-in lines joined in record {
+            made = no-calls run;
+            lines = λ s. wrote-none [] out refl;
+            pending = refl;
+            long = refl;
+            within = zero-le;
+            whole = refl;
+          }
+      still (Kind k) =
+          unfold pending-bytes half-of whole-of calls-in lines joined in record {
+            made = no-calls run;
+            lines = λ s. wrote-none [] out refl;
+            pending = refl;
+            long = refl;
+            within = zero-le;
+            whole = refl;
+          }
 
-  pub fed-kept : (q : Pending) → p ≡ q → used-of piece out ≡ 0 → FedAs run p piece out out (record { run = run; pending = q; used = 0; wrote = 0 })
-  fed-kept q same e = subst (λ x. FedAs run p piece out out (record { run = run; pending = x; used = 0; wrote = 0 })) same (fed-idle e)
+  -- the run was lent to its calls, and their lines were put
+  pub fed-taken :
+      (after : List ℕ) (input : Joined) (given : Lent) (q : Pending) (wrote : ℕ) → exceeds (length piece) (length out) ≡ false
+      → JoinedAs (pending-bytes p ++ piece) input → LentOf (take (2 * (input .count / 2)) (input .bytes)) run given
+      → pending-bytes q ≡ half-of (take (input .count) (input .bytes)) → 4 * (input .count / 2) ≤ length out
+      → wrote ≡ length (joined line (take (input .count / 2) (given .piece .answers))) → wrote ≤ 4 * (input .count / 2)
+      → after ≡ sets out 0 (joined line (take (input .count / 2) (given .piece .answers)))
+      → FedAs run p piece out after (record { run = given .run; pending = q; used = length piece; wrote = wrote })
+  fed-taken after input given q wrote h j l left room count most put =
+      record {
+        used = sym (used-all h);
+        fed = subst (λ b. FedWith run b out after (record { run = given .run; pending = q; used = length piece; wrote = wrote })) (sym all) fed;
+      }
+    where
+      bytes : List ℕ
+      bytes = pending-bytes p ++ piece
 
-  module _ (after : List ℕ) (f : Fed) where
-    counted : f .wrote ≤ length after → f .wrote ≡ length (take (f .wrote) after)
-    counted h = sym (length-take-le (f .wrote) after h)
+      all : pending-bytes p ++ take (length piece) piece ≡ bytes
+      all = ap (λ x. pending-bytes p ++ x) (take-length piece)
 
-    fed-bytes : (bytes : List ℕ) → used-of piece out ≡ length piece → f .used ≡ length piece → pending-bytes p ++ piece ≡ bytes
-        → PairedWith run bytes 0 out after f → FedAs run p piece out after f
-    fed-bytes bytes e u b h =
-        record {
-          used = u ∙ sym e;
-          fed =
-              subst (λ x. PairedWith run x 0 out after f)
-              (sym (ap (λ k. pending-bytes p ++ take k piece) u ∙ ap (λ x. pending-bytes p ++ x) (take-length piece) ∙ b)) h;
-          whole = counted (h .within);
-        }
+      calls : ℕ
+      calls = input .count / 2
 
-    pub fed-first : used-of piece out ≡ length piece → p ≡ Nothing → PairedAs run piece 0 0 out after f → FedAs run p piece out after f
-    unfolding pending-bytes
-    fed-first e q h = fed-bytes piece e (h .used) (ap (λ x. pending-bytes x ++ piece) q) (h .paired)
+      asked : take 512 (take (2 * calls) (input .bytes)) ≡ whole-of bytes
+      asked =
+          part-short (2 * calls) 512 (input .bytes) (omega (arith, j .most))
+          ∙ sym (take-take (2 * calls) (input .count) (input .bytes) (omega arith))
+          ∙ ap (take (2 * calls)) (j .places)
+          ∙ ap (λ n. take (2 * (n / 2)) bytes) (j .count)
+          ∙ sym (whole-take bytes)
 
-    pub fed-behind :
-        used-of piece out ≡ length piece → length piece / 2 < length out / 3 → (k : ℕ) → p ≡ Kind k → (length piece ≡ 0 → ⊥)
-        → (done : Made) → MadeAs k (getD piece 0 0) run done → (new : List ℕ) (at : ℕ) → new ≡ sets out 0 (line (done .number))
-        → at ≡ 0 + length (line (done .number)) → PairedAs (done .run) piece 1 at new after f → FedAs run p piece out after f
-    unfolding pending-bytes
-    fed-behind e room k q some done m new at o j h =
-        let start = going-starts run (k ∷ piece) 0 0 out (omega arith) (omega arith) in
-        let then = going-more run (k ∷ piece) 0 0 out run 0 0 out start (omega arith) done m new at o j in
-        fed-bytes (k ∷ piece) e (h .used) (ap (λ x. pending-bytes x ++ piece) q)
-        (going-then run (k ∷ piece) 0 0 out (done .run) 2 at new then after f (h .paired))
+      numbers : List ℕ
+      numbers = take calls (given .piece .answers)
+
+      said : SoundRun run → numbers ≡ lines (context-of run) (model run) (whole-of bytes)
+      said s =
+          let e = l .lines s ∙ ap (lines (context-of run) (model run)) asked in
+          part-long (given .piece .turn) calls (given .piece .answers) (ap length e ∙ lines-count (context-of run) (model run) bytes ∙ ap (λ n. n / 2) (sym (j .count))) ∙ e
+
+      wrote-lines : Wrote (joined line numbers) out after wrote
+      wrote-lines = wrote-all (joined line numbers) (joined line numbers) out after wrote refl (omega (arith, count, most, room)) count put
+
+      fed : FedWith run bytes out after (record { run = given .run; pending = q; used = length piece; wrote = wrote })
+      fed =
+          record {
+            made = subst (λ cs. CallsMade cs run (given .run)) (ap calls-in asked ∙ whole-calls bytes) (l .made);
+            lines = λ s. subst (λ xs. Wrote (joined line xs) out after wrote) (said s) wrote-lines;
+            pending = left ∙ ap half-of (j .places);
+            long = ap length put ∙ length-sets out 0 (joined line numbers);
+            within = wrote-lines .within;
+            whole = wrote-lines .whole;
+          }

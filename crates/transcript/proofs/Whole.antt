@@ -1,14 +1,13 @@
--- THE LAW OF THE COORDINATOR: however the input is cut into pieces, feeding them one after the other, then the line of half
+-- THE LAW OF THE COORDINATOR: however the input is cut into pieces of at most 511 bytes, feeding them one after the other, then the line of half
 -- a call and the closing lines, prints exactly the transcript of the whole input. Assumes nothing.
 use Prim.Native.Nat.{ℕ, zero, suc, _+_, _*_, _/_, _≤_}
 use mathlib.Core.Path.{_≡_, refl, sym, ap, subst, _∙_}
-use mathlib.Core.List.{List, [], _∷_, _++_, append-assoc}
+use mathlib.Core.List.{List, [], _∷_, _++_, append-nil, append-assoc}
 use mathlib.Core.Bool.{Bool, true, false, cond}
 use native.Mathlib.Omega.{arith}
 use lib.ListN.{length, take, drop}
 use lib.Seq.{take-at, take-length}
 use lib.Dec.{eqb}
-use borrow.Author.Tests.{le-leb}
 use Rattle.tasklist.specs.TaskList.{TaskList}
 use Rattle.tasklist.specs.Decode.{Decoded, refused, accepted, decode}
 use Rattle.tasklist.specs.Encode.{joined}
@@ -16,17 +15,23 @@ use Rattle.tasklist.specs.Tables.{list-of}
 use Rattle.library.specs.Library.{memory-of}
 use Rattle.semantics.specs.Run.{Context, context, initial}
 use Rattle.semantics.specs.Run as Semantics
-use Rattle.semantics.specs.Operations.{Asked, denies, gives, with-list, open-asked}
+use Rattle.semantics.specs.Call.{after-all}
+use Rattle.semantics.specs.Operations.{denies, gives, with-list, open-asked}
 use Rattle.runtime.specs.declared.Run.{Run}
 use Rattle.runtime.specs.declared.Opened.{Opened}
 use Rattle.runtime.specs.View.{model, context-of, SoundRun}
 use Rattle.runtime.specs.Asked.{open-number, Unopened, Running, OpenedAs}
+use Rattle.runtime.specs.Calls.{calls-of-kind}
+use Rattle.runtime.proofs.MadeLaws.{after-append}
+use Rattle.lent.specs.Lines.{calls-in, lines}
+use Rattle.lent.specs.Lines as Called
 use Rattle.transcript.specs.declared.Pending.{Pending}
 use Rattle.transcript.specs.declared.Pending.the-variants.{Nothing, Kind}
 use Rattle.transcript.specs.declared.Fed.{Fed}
-use Rattle.transcript.specs.Transcript.{line, call-line, call-run, closing, lines-from, refused-line, printed, transcript}
-use Rattle.transcript.specs.Promises.{given, Wrote, open-bytes, whole-lines, whole-run, half-of, pending-bytes, half-bytes, PairedWith, used-of, FedAs}
+use Rattle.transcript.specs.Transcript.{line, closing, lines-from, refused-line, printed, transcript}
+use Rattle.transcript.specs.Promises.{given, Wrote, open-bytes, whole-of, half-of, pending-bytes, half-bytes, FedAs}
 use Rattle.transcript.proofs.ClosingLaws.{with-room}
+use Rattle.transcript.proofs.PieceLaws.{exceeds-none, used-all}
 use Rattle.tasklist.proofs.RefusalLaws.{refused-above}
 
 -- these bytes were written at the front of a lent slice that has room for them, and then printed
@@ -43,7 +48,8 @@ pub record Turn (run : Run) (p : Pending) (piece : List ℕ) (f : Fed) (shown : 
   pub before : List ℕ
   pub after : List ℕ
   pub fed : FedAs run p piece before after f
-  pub enough : 3 * (length piece / 2 + 1) ≤ length before
+  pub short : length piece ≤ 511
+  pub enough : 4 * (length piece / 2 + 1) ≤ length before
   pub shown-is : shown ≡ take (f .wrote) after
 
 -- The program's loop from a run and a pending byte on: a turn for each piece, then half_line and closing_lines.
@@ -63,32 +69,53 @@ Coordinated (suc k) o pieces shown = Printed 11 (open-bytes (suc k)) shown
 abbrev pub all-of : List (List ℕ) → List ℕ
 all-of pieces = joined (λ piece. piece) pieces
 
+-- what was written at the front and then printed
+wrote-is : (bytes before after shown : List ℕ) (n : ℕ) → Wrote bytes before after n → shown ≡ take n after → shown ≡ bytes
+wrote-is bytes before after shown n w e =
+    e ∙ ap (take n) (w .places) ∙ take-at bytes (drop (length bytes) before) n (sym (w .count))
+
 printed-is : (room : ℕ) (bytes shown : List ℕ) → Printed room bytes shown → shown ≡ bytes
 printed-is room bytes shown p =
-    let w = p .wrote in
-    let all = with-room room (p .before) bytes (p .enough) in
-    p .shown-is
-    ∙ ap (take (p .count)) (w .places ∙ ap (λ b. b ++ drop (length b) (p .before)) all)
-    ∙ take-at bytes (drop (length bytes) (p .before)) (p .count) (ap length (sym all) ∙ sym (w .count))
+    wrote-is (given room (p .before) bytes) (p .before) (p .after) shown (p .count) (p .wrote) (p .shown-is)
+    ∙ with-room room (p .before) bytes (p .enough)
+
+-- the numbers of the calls that are whole in these bytes, each on a line
+abbrev whole-lines : Context → Semantics.Run → List ℕ → List ℕ
+whole-lines c r bytes = joined line (lines c r (whole-of bytes))
+
+-- the run that they leave
+abbrev whole-run : Context → Semantics.Run → List ℕ → Semantics.Run
+whole-run c r bytes = after-all c r (calls-in bytes)
+
+-- a call in front of the rest
+lines-next :
+    (c : Context) (r : Semantics.Run) (kind n : ℕ) (input : List ℕ)
+    → lines-from c r (kind ∷ n ∷ input) ≡ line (Called.line c r kind n) ++ lines-from c (after-all c r (calls-of-kind kind n)) input
+unfolding lines-from lines calls-in joined
+lines-next c r kind n input =
+    let after = after-all c r (calls-of-kind kind n) in
+    let first = line (Called.line c r kind n) in
+    ap (λ x. first ++ joined line (lines c after input) ++ closing x) (after-append c r (calls-of-kind kind n) (calls-in input))
+    ∙ append-assoc first (joined line (lines c after input)) (closing (after-all c after (calls-in input)))
 
 -- the lines of two parts of the input, one behind the other
 lines-split :
     (c : Context) (r : Semantics.Run) (a b : List ℕ) → lines-from c r (a ++ b) ≡ whole-lines c r a ++ lines-from c (whole-run c r a) (half-of a ++ b)
-unfolding lines-from whole-lines whole-run half-of
+unfolding whole-of half-of lines calls-in joined after-all
 lines-split c r [] b = refl
 lines-split c r (kind ∷ []) b = refl
 lines-split c r (kind ∷ n ∷ a) b =
-    ap (λ l. call-line c r kind n ++ l) (lines-split c (call-run c r kind n) a b)
-    ∙ sym (append-assoc (call-line c r kind n) (whole-lines c (call-run c r kind n) a) (lines-from c (whole-run c (call-run c r kind n) a) (half-of a ++ b)))
+    let after = after-all c r (calls-of-kind kind n) in
+    let first = line (Called.line c r kind n) in
+    lines-next c r kind n (a ++ b)
+    ∙ ap (λ l. first ++ l) (lines-split c after a b)
+    ∙ sym (append-assoc first (whole-lines c after a) (lines-from c (whole-run c after a) (half-of a ++ b)))
+    ∙ ap (λ x. first ++ whole-lines c after a ++ lines-from c x (half-of a ++ b)) (sym (after-append c r (calls-of-kind kind n) (calls-in a)))
 
 lines-end : (c : Context) (r : Semantics.Run) (p : Pending) → lines-from c r (pending-bytes p ++ []) ≡ half-bytes p ++ closing r
-unfolding lines-from pending-bytes half-bytes
+unfolding lines-from pending-bytes half-bytes lines calls-in joined after-all
 lines-end c r Nothing = refl
-lines-end c r (Kind k) = refl
-
-used-all : (piece out : List ℕ) → 3 * (length piece / 2 + 1) ≤ length out → used-of piece out ≡ length piece
-unfolding used-of
-used-all piece out h = rw (le-leb (3 * (length piece / 2 + 1)) (length out) h) refl
+lines-end c r (Kind k) = ap (λ l. l ++ closing r) (append-nil (line 18))
 
 -- from a run and a pending byte on
 pub session-lines :
@@ -103,12 +130,14 @@ session-lines (piece ∷ pieces) run p shown s (f, now-shown, later, t, rest, e)
     let fed = t .fed .fed in
     let bytes = pending-bytes p ++ piece in
     let whole : pending-bytes p ++ take (f .used) piece ≡ bytes =
-    ap (λ k. pending-bytes p ++ take k piece) (t .fed .used ∙ used-all piece (t .before) (t .enough)) ∙ ap (λ l. pending-bytes p ++ l) (take-length piece) in
-    let lines : now-shown ≡ whole-lines c (model run) bytes = t .shown-is ∙ fed .lines s ∙ ap (whole-lines c (model run)) whole in
+    ap (λ k. pending-bytes p ++ take k piece) (t .fed .used ∙ used-all run p piece (t .before) (exceeds-none (length piece) (length (t .before)) (t .short) (t .enough))) ∙ ap (λ l. pending-bytes p ++ l) (take-length piece) in
+    let lines : now-shown ≡ whole-lines c (model run) bytes =
+    wrote-is (whole-lines c (model run) (pending-bytes p ++ take (f .used) piece)) (t .before) (t .after) now-shown (f .wrote) (fed .lines s) (t .shown-is)
+    ∙ ap (whole-lines c (model run)) whole in
     let left : later ≡ lines-from c (whole-run c (model run) bytes) (half-of bytes ++ all-of pieces) =
-    session-lines pieces (f .run) (f .pending) later (fed .sound s) rest
-    ∙ ap (λ x. lines-from (context (list-of x)) (model (f .run)) (pending-bytes (f .pending) ++ all-of pieces)) (fed .list)
-    ∙ ap (λ m. lines-from c m (pending-bytes (f .pending) ++ all-of pieces)) (fed .run s ∙ ap (whole-run c (model run)) whole)
+    session-lines pieces (f .run) (f .pending) later (fed .made .sound s) rest
+    ∙ ap (λ x. lines-from (context (list-of x)) (model (f .run)) (pending-bytes (f .pending) ++ all-of pieces)) (fed .made .list)
+    ∙ ap (λ m. lines-from c m (pending-bytes (f .pending) ++ all-of pieces)) (fed .made .run s ∙ ap (whole-run c (model run)) whole)
     ∙ ap (λ q. lines-from c (whole-run c (model run) bytes) (q ++ all-of pieces)) (fed .pending ∙ ap half-of whole) in
     e ∙ ap (λ x. x ++ later) lines ∙ ap (λ x. whole-lines c (model run) bytes ++ x) left
     ∙ sym (lines-split c (model run) bytes (all-of pieces))

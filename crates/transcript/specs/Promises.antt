@@ -2,19 +2,19 @@
 use Prim.Native.Nat.{ℕ, zero, suc, _+_, _*_, _/_, _≤_}
 use mathlib.Core.Path.{_≡_}
 use mathlib.Core.List.{List, [], _∷_, _++_}
-use mathlib.Core.Bool.{cond}
+use mathlib.Core.Bool.{Bool, cond, _||_}
 use lib.ListN.{length, take, drop}
-use lib.Dec.{leb}
-use Rattle.semantics.specs.Run as Semantics
-use Rattle.semantics.specs.Run.{Context}
+use lib.Dec.{leb, ltb}
+use Rattle.tasklist.specs.Encode.{joined}
 use Rattle.runtime.specs.declared.Run.{Run}
 use Rattle.runtime.specs.View.{model, context-of, SoundRun}
-use Rattle.runtime.specs.Calls.{calls-of-kind}
-use Rattle.transcript.specs.declared.Made.{Made}
+use Rattle.runtime.specs.Calls.{CallsMade}
+use Rattle.lent.specs.Lines.{calls-in, lines}
 use Rattle.transcript.specs.declared.Pending.{Pending}
 use Rattle.transcript.specs.declared.Pending.the-variants.{Nothing, Kind}
+use Rattle.transcript.specs.declared.Joined.{Joined}
 use Rattle.transcript.specs.declared.Fed.{Fed}
-use Rattle.transcript.specs.Transcript.{line, number-of, call-line, call-run, refused-line}
+use Rattle.transcript.specs.Transcript.{line, refused-line}
 
 -- these bytes where the slice has so many places, else none
 unfoldable pub given : ℕ → List ℕ → List ℕ → List ℕ
@@ -32,24 +32,11 @@ pub record Wrote (bytes before after : List ℕ) (n : ℕ) : Type 0 where
   pub within : n ≤ length after
   pub whole : n ≡ length (take n after)
 
--- One call: what its line says and the run after it, by the model. Of every run: the list is kept, and no number is above 18.
-pub record MadeAs (kind n : ℕ) (from : Run) (r : Made) : Type 0 where
-  pub number : SoundRun from → r .number ≡ number-of (context-of from) (model from) (calls-of-kind kind n)
-  pub run : SoundRun from → model (r .run) ≡ call-run (context-of from) (model from) kind n
-  pub sound : SoundRun from → SoundRun (r .run)
-  pub list : r .run .tables ≡ from .tables
-  pub most : r .number ≤ 18
-
--- The calls that are whole in these bytes: their lines, the run that they leave, and the byte left over, if there is one.
-unfoldable pub whole-lines : Context → Semantics.Run → List ℕ → List ℕ
-whole-lines c r [] = []
-whole-lines c r (kind ∷ []) = []
-whole-lines c r (kind ∷ n ∷ input) = call-line c r kind n ++ whole-lines c (call-run c r kind n) input
-
-unfoldable pub whole-run : Context → Semantics.Run → List ℕ → Semantics.Run
-whole-run c r [] = r
-whole-run c r (kind ∷ []) = r
-whole-run c r (kind ∷ n ∷ input) = whole-run c (call-run c r kind n) input
+-- The calls that are whole in these bytes, and the byte left over, if there is one.
+unfoldable pub whole-of : List ℕ → List ℕ
+whole-of [] = []
+whole-of (kind ∷ []) = []
+whole-of (kind ∷ n ∷ input) = kind ∷ n ∷ whole-of input
 
 unfoldable pub half-of : List ℕ → List ℕ
 half-of [] = []
@@ -66,30 +53,33 @@ unfoldable pub half-bytes : Pending → List ℕ
 half-bytes Nothing = []
 half-bytes (Kind k) = line 18
 
--- The calls that are whole in these bytes were made on the run `from`, and their lines put behind the first `start` places.
-pub record PairedWith (from : Run) (bytes : List ℕ) (start : ℕ) (before after : List ℕ) (r : Fed) : Type 0 where
-  pub lines : SoundRun from → take (r .wrote) after ≡ take start before ++ whole-lines (context-of from) (model from) bytes
-  pub run : SoundRun from → model (r .run) ≡ whole-run (context-of from) (model from) bytes
-  pub sound : SoundRun from → SoundRun (r .run)
-  -- of every run
-  pub list : r .run .tables ≡ from .tables
+-- these bytes stand at the front of an array
+pub record JoinedAs (bytes : List ℕ) (r : Joined) : Type 0 where
+  pub count : r .count ≡ length bytes
+  pub places : take (r .count) (r .bytes) ≡ bytes
+  pub most : r .count ≤ 512
+  pub long : length (r .bytes) ≡ 512
+
+-- a piece of more than 511 bytes, or not 4 places for each call that could be in it
+unfoldable pub exceeds : ℕ → ℕ → Bool
+exceeds piece out = ltb 511 piece || ltb out (4 * (piece / 2 + 1))
+
+-- how many bytes of a piece are used: none where it exceeds, else all
+unfoldable pub used-of : List ℕ → List ℕ → ℕ
+used-of piece out = cond (exceeds (length piece) (length out)) 0 (length piece)
+
+-- The calls that are whole in these bytes were made on the run `from`, and their lines written at the front. A last odd byte
+-- waits: it is no half call.
+pub record FedWith (from : Run) (bytes before after : List ℕ) (r : Fed) : Type 0 where
+  pub made : CallsMade (calls-in bytes) from (r .run)
+  pub lines : SoundRun from → Wrote (joined line (lines (context-of from) (model from) (whole-of bytes))) before after (r .wrote)
   pub pending : pending-bytes (r .pending) ≡ half-of bytes
-  pub rest : drop (r .wrote) after ≡ drop (r .wrote) before
-  pub low : start ≤ r .wrote
+  -- of every run
   pub long : length after ≡ length before
   pub within : r .wrote ≤ length after
+  pub whole : r .wrote ≡ length (take (r .wrote) after)
 
--- the same of a piece from a place on, which is used whole
-pub record PairedAs (from : Run) (piece : List ℕ) (place start : ℕ) (before after : List ℕ) (r : Fed) : Type 0 where
-  pub used : r .used ≡ length piece
-  pub paired : PairedWith from (drop place piece) start before after r
-
--- how many bytes of a piece are used: all where the slice has 3 places for each call that could be in it, else none
-unfoldable pub used-of : List ℕ → List ℕ → ℕ
-used-of piece out = cond (leb (3 * (length piece / 2 + 1)) (length out)) (length piece) 0
-
--- A piece of the input behind the byte that waited. A piece's odd last byte waits for the next piece: it is no half call.
+-- a piece of the input behind the byte that waited
 pub record FedAs (from : Run) (pending : Pending) (piece before after : List ℕ) (r : Fed) : Type 0 where
   pub used : r .used ≡ used-of piece before
-  pub fed : PairedWith from (pending-bytes pending ++ take (r .used) piece) 0 before after r
-  pub whole : r .wrote ≡ length (take (r .wrote) after)
+  pub fed : FedWith from (pending-bytes pending ++ take (r .used) piece) before after r

@@ -9,10 +9,9 @@ use Rattle.tasklist.specs.Decode.{decode}
 use Rattle.tasklist.specs.Encode.{joined}
 use Rattle.library.specs.Library.{memory-of}
 use Rattle.semantics.specs.Run.{Run, Context, initial}
-use Rattle.semantics.specs.Call.{Call, decide, after-all}
+use Rattle.semantics.specs.Call.{after-all}
 use Rattle.semantics.specs.Operations.{Asked, denies, gives, with-list}
-use Rattle.semantics.specs.Answers.{outcome-number}
-use Rattle.runtime.specs.Calls.{calls-of-kind}
+use Rattle.lent.specs.Lines.{calls-in, lines}
 
 -- the digits of a number, with so many steps to spare
 unfoldable pub digits-within : ℕ → ℕ → List ℕ
@@ -31,19 +30,6 @@ followed n behind = digits n ++ (behind ∷ [])
 abbrev pub line : ℕ → List ℕ
 line n = followed n 10
 
--- "0 or the refusal (another kind ..: 18)": what the line of a call says; another kind is no call
-unfoldable pub number-of : Context → Run → List Call → ℕ
-number-of c r [] = 18
-number-of c r (b ∷ bs) = outcome-number (decide c r b)
-
--- "0 start, 1 step, 2 end, then the job": the line of a two-byte call
-abbrev pub call-line : Context → Run → ℕ → ℕ → List ℕ
-call-line c r kind n = line (number-of c r (calls-of-kind kind n))
-
--- the run that it leaves: a refused call and another kind leave it as it was
-abbrev pub call-run : Context → Run → ℕ → ℕ → Run
-call-run c r kind n = after-all c r (calls-of-kind kind n)
-
 -- "last calls, weight and jobs left"
 unfoldable pub totals : ℕ → ℕ → ℕ → List ℕ
 totals calls weight left = followed calls 32 ++ followed weight 32 ++ line left
@@ -52,11 +38,10 @@ totals calls weight left = followed calls 32 ++ followed weight 32 ++ line left
 unfoldable pub closing : Run → List ℕ
 closing r = joined line (r .memory) ++ totals (r .calls) (r .weight) (length (r .order))
 
--- "one line per call, 0 or the refusal (another kind, or half a call: 18)", then what closes the transcript
+-- "one line per call, 0 or the refusal (another kind, or half a call: 18)", then what closes the transcript of the run that
+-- the calls leave
 unfoldable pub lines-from : Context → Run → List ℕ → List ℕ
-lines-from c r [] = closing r
-lines-from c r (kind ∷ []) = line 18 ++ closing r
-lines-from c r (kind ∷ n ∷ input) = call-line c r kind n ++ lines-from c (call-run c r kind n) input
+lines-from c r input = joined line (lines c r input) ++ closing (after-all c r (calls-in input))
 
 -- "A failed open prints one line, as `refused 1`."
 unfoldable pub refused-line : ℕ → List ℕ

@@ -2,16 +2,16 @@
 // The program above it only moves bytes.
 use runtime::Run;
 
-// A call that was made: what its line says, and the run after it.
-pub struct Made {
-    pub number: u8,
-    pub run: Run,
-}
-
 // The byte that a piece of input ends with, where it is the first of a call.
 pub enum Pending {
     Nothing,
     Kind(u8),
+}
+
+// The pending byte and a piece of input behind it: so many bytes at the front.
+pub struct Joined {
+    pub bytes: [u8; 512],
+    pub count: usize,
 }
 
 // A piece of input that was taken: the run after its calls, the byte that waits for the next piece, how many of its bytes
@@ -34,4 +34,3 @@ pub use opening::open_files;
 pub use opening::open_line;
 pub use opening::open_number;
 pub use pieces::feed;
-pub use pieces::make_call;

@@ -1,13 +1,11 @@
 -- Nothing is used, or the run is lent to the calls of the piece behind the byte that waited.
 -- Assumes nothing.
 use Prim.Native.Nat.{_*_, _/_}
-use mathlib.Core.Path.{sym, ap, _∙_}
+use mathlib.Core.Path.{sym, _∙_}
 use native.Mathlib.Omega.{arith}
-use lib.ListN.{length, take}
-use lib.Seq.{length-sets, length-take-le}
+use lib.ListN.{length}
+use lib.Seq.{length-take-le}
 use denote.Ref.{now}
-use Rattle.tasklist.specs.Encode.{joined}
-use Rattle.transcript.specs.Transcript.{line}
 use Rattle.transcript.proofs.PieceLaws.{within-both, joined-room, fed-idle, fed-taken}
 use borrow.Author.Needs.{needs}
 use Rattle.transcript.proofs.pieces.feed.Statement.{statement}
@@ -43,20 +41,18 @@ lend-requires : tie.Need-lend-requires
 lend-requires c κs = search needs
 
 left-over-requires : tie.Need-left-over-requires
-left-over-requires c κs = c .before .before .before .before .before .before .before .in-one .ensures .most
+left-over-requires c κs = let most = c .before .before .before .before .before .before .before .in-one .ensures .most in omega (arith, most)
 
 put-lines-requires : tie.Need-put-lines-requires
 put-lines-requires c κs =
     let a = c .before .before .before .before .before .before .before .before .before .before .before .before .before .before .args in
     let input = c .before .before .before .before .before .before .before .before .before .in-one in
     let fit = sym (c .before .before .before .before .before .before .before .before .before .before .before .exceeds .ensures) ∙ c .before .before .before .before .before .before .before .before .before .before .if1 .left in
-    (omega (arith, input .ensures .most), joined-room (a .pending) (now (a .piece)) (length (now (a .out))) (input .result .count) fit (input .ensures .count))
+    let room = joined-room (a .pending) (now (a .piece)) (length (now (a .out))) (input .result .count) fit (input .ensures .count) in
+    (omega (arith, input .ensures .most), omega (arith, room))
 
 same-length : tie.Need-same-length
-same-length c =
-    let a = c .before .before .before .before .before .before .before .before .before .before .before .before .before .before .before .before .before .args in
-    let put = c .before .before .put-lines in
-    ap length (put .ensures .2) ∙ length-sets (now (a .out)) 0 (joined line (take (c .before .before .before .before .before .before .before .before .before .before .before .before .in-one .result .count / 2) (c .before .before .before .before .before .before .before .before .lend .result .piece .answers)))
+same-length c = search needs
 
 returns-2 : tie.Need-returns-2
 returns-2 c =

@@ -5,8 +5,8 @@ use mathlib.Core.List.{List, [], _∷_, _++_, append-assoc}
 use mathlib.Core.Bool.{Bool, true, false, cond, _||_}
 use native.Mathlib.Omega.{arith}
 use native.Mathlib.Numerals.{add-one}
-use lib.ListN.{length, take, getD, set, length-append, length-take}
-use lib.Seq.{sets, length-sets, length-take-le, take-length, take-all, take-take, take-nil, take-suc, take-suc-set, getD-take}
+use lib.ListN.{length, take, drop, getD, set, length-append, length-take}
+use lib.Seq.{sets, length-sets, length-take-le, take-length, take-all, take-take, take-nil, take-suc, take-suc-set, getD-take, drop-at}
 use lib.Dec.{ltb}
 use borrow.Author.Tests.{lt-ltb, le-ltb, ltb-false}
 use Rattle.tasklist.specs.Encode.{joined}
@@ -198,6 +198,7 @@ module _ (run : Run) (p : Pending) (piece out : List ℕ) where
             made = no-calls run;
             lines = λ s. wrote-none [] out refl;
             pending = refl;
+            rest = refl;
             long = refl;
             within = zero-le;
             whole = refl;
@@ -207,6 +208,7 @@ module _ (run : Run) (p : Pending) (piece out : List ℕ) where
             made = no-calls run;
             lines = λ s. wrote-none [] out refl;
             pending = refl;
+            rest = refl;
             long = refl;
             within = zero-le;
             whole = refl;
@@ -260,6 +262,10 @@ module _ (run : Run) (p : Pending) (piece out : List ℕ) where
             made = subst (λ cs. CallsMade cs run (given .run)) (ap calls-in asked ∙ whole-calls bytes) (l .made);
             lines = λ s. subst (λ xs. Wrote (joined line xs) out after wrote) (said s) wrote-lines;
             pending = left ∙ ap half-of (j .places);
+            rest =
+                ap (drop wrote) (wrote-lines .places)
+                ∙ drop-at (joined line numbers) (drop (length (joined line numbers)) out) wrote (sym count)
+                ∙ ap (λ k. drop k out) (sym count);
             long = ap length put ∙ length-sets out 0 (joined line numbers);
             within = wrote-lines .within;
             whole = wrote-lines .whole;

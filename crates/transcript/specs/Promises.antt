@@ -75,6 +75,7 @@ pub record FedWith (from : Run) (bytes before after : List ℕ) (r : Fed) : Type
   pub lines : SoundRun from → Wrote (joined line (lines (context-of from) (model from) (whole-of bytes))) before after (r .wrote)
   pub pending : pending-bytes (r .pending) ≡ half-of bytes
   -- of every run
+  pub rest : drop (r .wrote) after ≡ drop (r .wrote) before
   pub long : length after ≡ length before
   pub within : r .wrote ≤ length after
   pub whole : r .wrote ≡ length (take (r .wrote) after)

@@ -1,8 +1,13 @@
 -- One number of what was asked for, 0 where it is refused.
 use Prim.Native.Nat.{ℕ}
-use lib.ListN.{length}
+use mathlib.Core.List.{List}
+use lib.ListN.{length, take}
+use Rattle.tasklist.specs.Decode.{decode}
+use Rattle.semantics.specs.Run.{initial}
 use Rattle.semantics.specs.Run as Semantics
-use Rattle.semantics.specs.Operations.{Asked, denies, gives}
+use Rattle.semantics.specs.Call.{Call, after-all}
+use Rattle.semantics.specs.Operations.{Asked, denies, gives, with-list}
+use Rattle.lent.specs.Lines as Lines
 
 -- calls accepted
 unfoldable pub calls-in : Asked Semantics.Run → ℕ
@@ -13,3 +18,11 @@ calls-in (gives r) = r .calls
 unfoldable pub left-in : Asked Semantics.Run → ℕ
 left-in (denies k) = 0
 left-in (gives r) = length (r .order)
+
+-- "The first gets the fresh run, each later one the run as the call before it left it": these calls on what open gives
+unfoldable pub replay-asked : List ℕ → List ℕ → List Call → Asked Semantics.Run
+replay-asked bytes memory calls = with-list (decode bytes) memory (λ c. after-all c (initial c memory) calls)
+
+-- the calls of the input's first 512 bytes
+unfoldable pub lent-asked : List ℕ → List ℕ → List ℕ → Asked Semantics.Run
+lent-asked bytes memory input = replay-asked bytes memory (Lines.calls-in (take 512 input))

@@ -1,0 +1,207 @@
+//! The hand run, in place. "at each spawn the child is run whole before the next step": no task is ever ahead of the one
+//! that makes a call, so no call waits, and the order needs no table.
+
+use crate::check::{index, word, Index};
+
+#[derive(Clone, Copy)]
+pub struct Record {
+    pub state: u8,
+    pub sheet: u8,
+    pub fault: u8,
+    pub place: u8,
+    pub registers: [u32; 4],
+    pub done: u32,
+    pub weight: u32,
+}
+
+pub struct Run {
+    pub memory: [u32; 64],
+    pub records: [Record; 128],
+    pub modes: [[u8; 64]; 128],
+    pub calls: u32,
+    pub weight: u32,
+}
+
+/// "codes 0 to 8: 1, 1, 1, 1, 3, 4, 1, 8, 1"
+const WEIGHTS: [u32; 9] = [1, 1, 1, 1, 3, 4, 1, 8, 1];
+
+const NEVER: Record = Record {
+    state: 0,
+    sheet: 0,
+    fault: 0,
+    place: 0,
+    registers: [0; 4],
+    done: 0,
+    weight: 0,
+};
+
+/// A list that is run: its bytes, where its records begin, and count(s).
+struct Job<'a> {
+    list: &'a [u8],
+    index: Index,
+    counts: [u32; 32],
+    locations: usize,
+}
+
+pub fn hand_run(list: &[u8], memory: &[u32], run: &mut Run) -> u32 {
+    let index = match index(list) {
+        Ok(index) => index,
+        Err(refusal) => return 128 + refusal,
+    };
+    let locations = list[2] as usize;
+    if memory.len() != locations {
+        return 128 + 8;
+    }
+    run.memory[..locations].copy_from_slice(memory);
+    run.memory[locations..].fill(0);
+    run.records.fill(NEVER);
+    run.modes.fill([0; 64]);
+    run.modes[0][..locations].fill(2);
+    run.calls = 0;
+    run.weight = 0;
+    let mut job = Job {
+        list,
+        index,
+        counts: [0; 32],
+        locations,
+    };
+    job.count();
+    job.whole(run, 0, 0, [0; 4]);
+    0
+}
+
+impl Job<'_> {
+    fn instruction(&self, sheet: usize, place: usize) -> u32 {
+        let at = self.index.sheets[sheet].0 as usize + 4 * place;
+        word(&self.list[at..at + 4])
+    }
+
+    /// "count(s) is 1 plus count(a) for each spawn in sheet s, passed over or not."
+    fn count(&mut self) {
+        for s in (0..self.index.sheet_count).rev() {
+            let mut count = 1u32;
+            for i in 0..self.index.sheets[s].1 as usize {
+                count += self.adds(self.instruction(s, i));
+            }
+            self.counts[s] = count.min(129);
+        }
+    }
+
+    /// What an instruction adds to the numbers of its sheet.
+    fn adds(&self, w: u32) -> u32 {
+        if w & 0xFF == 7 {
+            self.counts[(w >> 8 & 0xFF) as usize & 31]
+        } else {
+            0
+        }
+    }
+
+    /// Faults 1 and 2 of one entry, by the task's own mode there.
+    fn fault(&self, modes: &[u8; 64], entry: u32, writes: bool) -> u8 {
+        if entry as usize >= self.locations {
+            return 1;
+        }
+        match modes[entry as usize & 63] {
+            0 => 1,
+            1 if writes => 2,
+            _ => 0,
+        }
+    }
+
+    /// The modes of a footprint, or its fault: "1, 2, then 3 against earlier lines".
+    fn granted(
+        &self,
+        own: &[u8; 64],
+        registers: &[u32; 4],
+        footprint: usize,
+        child: &mut [u8; 64],
+    ) -> u8 {
+        let (at, count) = self.index.footprints[footprint & 31];
+        let lines = &self.list[at as usize..at as usize + 2 * count as usize];
+        for line in lines.chunks_exact(2) {
+            let entry = if line[0] < 2 {
+                line[1] as u32
+            } else {
+                registers[line[1] as usize & 3]
+            };
+            let writes = line[0] & 1 == 1;
+            let fault = self.fault(own, entry, writes);
+            if fault != 0 {
+                return fault;
+            }
+            let mode = &mut child[entry as usize & 63];
+            if *mode != 0 {
+                return 3;
+            }
+            *mode = 1 + writes as u8;
+        }
+        0
+    }
+
+    /// "its start, its steps until it is at its end, and at each spawn the child is run whole before the next step; last
+    /// its end call"
+    fn whole(&self, run: &mut Run, task: usize, sheet: usize, given: [u32; 4]) {
+        let task = task & 127;
+        let mut registers = given;
+        let mut next = task as u32 + 1;
+        let mut place = 0;
+        let (mut done, mut weight, mut fault) = (0, 5 + 2, 0);
+        let count = self.index.sheets[sheet].1 as usize;
+        while place < count {
+            let w = self.instruction(sheet, place);
+            let [code, a, b, c] = w.to_le_bytes();
+            let (ra, rb) = (registers[a as usize & 3], registers[b as usize & 3]);
+            let rc = registers[c as usize & 3];
+            done += 1;
+            weight += WEIGHTS[code as usize % 9];
+            let mut passed = 0;
+            match code {
+                0 => registers[a as usize & 3] = b as u32 + 256 * c as u32,
+                1 => registers[a as usize & 3] = rb.wrapping_add(rc),
+                2 => registers[a as usize & 3] = rb.wrapping_sub(rc),
+                3 => registers[a as usize & 3] = (rb < rc) as u32,
+                4 => {
+                    fault = self.fault(&run.modes[task], rb, false);
+                    if fault == 0 {
+                        registers[a as usize & 3] = run.memory[rb as usize & 63];
+                    }
+                }
+                5 => {
+                    fault = self.fault(&run.modes[task], ra, true);
+                    if fault == 0 {
+                        run.memory[ra as usize & 63] = rb;
+                    }
+                }
+                6 if ra == 0 => passed = b as usize,
+                6 => {}
+                7 => {
+                    let mut modes = [0; 64];
+                    fault = self.granted(&run.modes[task], &registers, b as usize, &mut modes);
+                    if fault == 0 {
+                        run.modes[next as usize & 127] = modes;
+                        self.whole(run, next as usize, a as usize & 31, registers);
+                    }
+                }
+                _ => fault = self.fault(&run.modes[task], ra, false),
+            }
+            if fault != 0 {
+                break;
+            }
+            for i in place..=place + passed {
+                next += self.adds(self.instruction(sheet, i));
+            }
+            place += 1 + passed;
+        }
+        run.calls += 2 + done;
+        run.weight += weight;
+        run.records[task] = Record {
+            state: 3,
+            sheet: sheet as u8,
+            fault,
+            place: place as u8,
+            registers,
+            done,
+            weight,
+        };
+    }
+}

@@ -1,0 +1,1 @@
+unsigned openmp_trees(int times, int waits);

@@ -21,21 +21,19 @@ pub fn row_of(modes: &[u8; 8192], task: usize) -> [u8; 64]
     out
 }
 
-// The table with `row` as the row of `task`; the same table from 128 on.
-pub fn with_row(modes: [u8; 8192], task: usize, row: [u8; 64]) -> [u8; 8192]
-    ensures { λ r. ⌜ (task < 128 → r ≡ with task row modes) ⌝ }
+// Puts `row` as the row of `task`; leaves the table as it is from 128 on.
+pub fn put_row(modes: &mut [u8; 8192], task: usize, row: [u8; 64])
+    ensures { λ r. ⌜ (length (now (modes .entry)) ≡ 8192 → task < 128 → now (modes .exit) ≡ with task row (now (modes .entry))) × (length (now (modes .exit)) ≡ length (now (modes .entry))) ⌝ }
 {
     if 127 < task {
-        return modes;
+        return;
     }
     let base = 64 * task;
-    let mut out = modes;
     let mut j = 0;
     while j < 64 {
-        out[base + j] = row[j];
+        modes[base + j] = row[j];
         j += 1;
     }
-    out
 }
 
 // The mode of `task` at `location`; 0 where there is no such task or location.

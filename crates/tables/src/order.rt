@@ -22,41 +22,37 @@ pub fn position(order: &[u8; 128], left: usize, task: u8) -> Place
     Place::Absent
 }
 
-// The order with `task` at place `at`, those from there on moved back by one; the same order where there is no room.
-pub fn inserted(order: [u8; 128], left: usize, at: usize, task: u8) -> [u8; 128]
-    ensures { λ r. ⌜ (at ≤ left → left < 128 → take (left + 1) r ≡ insert-at at task (take left order)) ⌝ }
+// Puts `task` at place `at` of the order, those from there on moved back by one; leaves it where there is no room.
+pub fn insert(order: &mut [u8; 128], left: usize, at: usize, task: u8)
+    ensures { λ r. ⌜ (length (now (order .entry)) ≡ 128 → at ≤ left → left < 128 → take (left + 1) (now (order .exit)) ≡ insert-at at task (take left (now (order .entry)))) × (length (now (order .exit)) ≡ length (now (order .entry))) ⌝ }
 {
     if 128 <= left {
-        return order;
+        return;
     }
     if left < at {
-        return order;
+        return;
     }
-    let mut o = order;
     let mut i = left;
     while at < i {
-        o[i] = o[i - 1];
+        order[i] = order[i - 1];
         i -= 1;
     }
-    o[at] = task;
-    o
+    order[at] = task;
 }
 
-// The order without the task at place `at`, those behind it moved forward by one; the same order where there is none.
-pub fn removed(order: [u8; 128], left: usize, at: usize) -> [u8; 128]
-    ensures { λ r. ⌜ (at < left → left ≤ 128 → take (left - 1) r ≡ without at (take left order)) ⌝ }
+// Takes the task at place `at` out of the order, those behind it moved forward by one; leaves it where there is none.
+pub fn remove(order: &mut [u8; 128], left: usize, at: usize)
+    ensures { λ r. ⌜ (length (now (order .entry)) ≡ 128 → at < left → left ≤ 128 → take (left - 1) (now (order .exit)) ≡ without at (take left (now (order .entry)))) × (length (now (order .exit)) ≡ length (now (order .entry))) ⌝ }
 {
     if 128 < left {
-        return order;
+        return;
     }
     if left <= at {
-        return order;
+        return;
     }
-    let mut o = order;
     let mut i = at;
     while i < left - 1 {
-        o[i] = o[i + 1];
+        order[i] = order[i + 1];
         i += 1;
     }
-    o
 }

@@ -1,6 +1,7 @@
 // What stands where in the tables, whatever they hold.
+ghost use Prim.Native.Nat.{_≤_, _<_, min};
 ghost use mathlib.Core.Path.{_≡_};
-ghost use lib.ListN.{length, getD};
+ghost use lib.ListN.{length, take, getD};
 ghost use Rattle.tasklist.specs.TaskList.{body-of, footprint-of, instruction-of};
 ghost use Rattle.tasklist.specs.Accepted.{blank-line};
 ghost use Rattle.tasklist.specs.Tables.{list-of};
@@ -24,26 +25,29 @@ pub fn body_count(tables: Tables) -> usize
     clamped(tables.bodies, 32)
 }
 
+// How many places of row `s` are used, where the first `count` of 32 rows are, each as its size says but at most `width`.
+pub fn row_size(count: u8, sizes: &[u8; 32], width: usize, s: usize) -> usize
+    ensures { λ r. ⌜ (r ≡ min (getD (take (min count 32) (now (sizes .entry))) s 0) width) × (r ≤ width) × (0 < r → s < 32) ⌝ }
+{
+    if s < clamped(count, 32) {
+        clamped(sizes[s], width)
+    } else {
+        0
+    }
+}
+
 // How many lines footprint `f` has, 0 where there is none.
 pub fn footprint_size(tables: Tables, f: usize) -> usize
     ensures { λ r. ⌜ r ≡ length (footprint-of (list-of tables) f) ⌝ }
 {
-    if f < clamped(tables.footprints, 32) {
-        clamped(tables.widths[f], 8)
-    } else {
-        0
-    }
+    row_size(tables.footprints, &tables.widths, 8, f)
 }
 
 // How many instructions body `s` has, 0 where there is none.
 pub fn body_size(tables: Tables, s: usize) -> usize
     ensures { λ r. ⌜ r ≡ length (body-of (list-of tables) s) ⌝ }
 {
-    if s < clamped(tables.bodies, 32) {
-        clamped(tables.sizes[s], 32)
-    } else {
-        0
-    }
+    row_size(tables.bodies, &tables.sizes, 32, s)
 }
 
 // Line `j` of footprint `f`; where there is none, the blank one (kind 0, value 0).

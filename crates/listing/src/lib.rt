@@ -9,6 +9,7 @@ pub use access::footprint_count;
 pub use access::footprint_size;
 pub use access::instruction_at;
 pub use access::line_at;
+pub use access::row_size;
 pub use access::task_count;
 pub use writer::encoded_length;
 pub use writer::write;

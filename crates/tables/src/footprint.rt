@@ -11,8 +11,7 @@ use crate::Granting;
 use crate::modes::mode_in;
 use crate::modes::with_mode;
 use crate::search::wide;
-use listing::footprint_size;
-use listing::line_at;
+use listing::row_size;
 use tasklist::Line;
 use tasklist::Tables;
 
@@ -103,11 +102,11 @@ fn line_fault(own: u8, asked: u8, earlier: u8) -> u8
 pub fn granted(tables: Tables, footprint: usize, registers: [u32; 4], own: [u8; 64]) -> Granting
     ensures { λ r. ⌜ grant-of r ≡ child-modes (spawner registers own) (footprint-of (list-of tables) footprint) ⌝ }
 {
-    let size = footprint_size(tables, footprint);
+    let size = row_size(tables.footprints, &tables.widths, 8, footprint);
     let mut modes = [0u8; 64];
     let mut j = 0;
     while j < size {
-        let line = line_at(tables, footprint, j);
+        let line = tables.lines[8 * footprint + j];
         let location = location_of(line, registers);
         let asked = mode_of(line);
         let mine = mode_in(own, location);

@@ -3,8 +3,7 @@ ghost use Prim.Native.Nat.{_+_, _<_};
 ghost use mathlib.Core.Path.{_≡_};
 ghost use Rattle.tables.specs.Numbers.{number-by};
 use crate::search::wide;
-use listing::body_size;
-use listing::instruction_at;
+use listing::row_size;
 use tasklist::Tables;
 use tasklist::added;
 
@@ -15,14 +14,15 @@ pub fn child_number(tables: Tables, task: usize, body: usize, pc: usize) -> usiz
     if 128 <= task {
         return task;
     }
-    let size = body_size(tables, body);
+    let size = row_size(tables.bodies, &tables.sizes, 32, body);
     let mut n = task + 1;
     let mut i = 0;
     while i < size {
         if pc <= i {
             return n;
         }
-        let instruction = instruction_at(tables, body, i);
+        let cell = tables.cells[32 * body + i];
+        let instruction = cell.instruction;
         let counts = tables.counts;
         n += wide(added(instruction, counts));
         i += 1;

@@ -1,12 +1,16 @@
 -- The first j lines are granted.
 -- Assumes nothing.
-use Prim.Native.Nat.{_+_, _-_, _≤_}
-use mathlib.Core.Path.{_≡_, sym, subst}
+use Prim.Native.Nat.{_+_, _*_, _-_, _≤_, _<_}
+use mathlib.Core.Path.{_≡_, sym, subst, _∙_}
 use native.Mathlib.Omega.{arith}
-use lib.ListN.{length}
+use lib.ListN.{length, getD}
+use Rattle.tasklist.specs.declared.Line.{Line}
+use Rattle.tasklist.specs.Accepted.{blank-line}
 use Rattle.tasklist.specs.TaskList.{footprint-of}
 use Rattle.tasklist.specs.Tables.{list-of}
-use Rattle.tasklist.proofs.PlaceLaws.{footprint-most}
+use Rattle.tasklist.proofs.Line.{the-type as the-line}
+use Rattle.tasklist.proofs.PlaceLaws.{length-lowered}
+use Rattle.listing.proofs.AccessLaws.{footprint-size-is, line-is}
 use Rattle.semantics.specs.Run.{no-modes}
 use Rattle.tables.proofs.GrantLaws.{Given, given-none, given-more, given-denied, given-all, fault-of}
 use borrow.Author.Needs.{needs}
@@ -14,22 +18,38 @@ use Rattle.tables.proofs.footprint.granted.Statement.{statement}
 use Rattle.tables.proofs.footprint.granted.Tie as tie
 
 abbrev Inv-loop : tie.InvT-loop
-Inv-loop tables footprint registers own size modes₀ j₀ modes j = (j ≤ size) × (size ≡ length (footprint-of (list-of tables) footprint)) × (size ≤ 8) × Given registers own (footprint-of (list-of tables) footprint) modes j
+Inv-loop footprint registers own tables size modes₀ j₀ modes j = (j ≤ size) × (size ≡ length (footprint-of (list-of tables) footprint)) × (size ≤ 8) × (0 < size → footprint < 32) × Given registers own (footprint-of (list-of tables) footprint) modes j
 
 abbrev μ-loop : tie.MeasureT-loop
-μ-loop tables footprint registers own size modes₀ j₀ modes j = size - j
+μ-loop footprint registers own tables size modes₀ j₀ modes j = size - j
 
-footprint-size-requires : tie.Need-footprint-size-requires Inv-loop μ-loop
-footprint-size-requires c κs = search needs
+row-size-requires : tie.Need-row-size-requires Inv-loop μ-loop
+row-size-requires c κs = search needs
 
 loop-holds : tie.Need-loop-holds Inv-loop μ-loop
 unfolding no-modes
 loop-holds c =
-    let a = c .before .args in
-    (search needs, c .footprint-size .ensures, omega (arith, footprint-most (a .tables) (a .footprint), c .footprint-size .ensures), given-none (a .registers) (a .own) (footprint-of (list-of (a .tables)) (a .footprint)))
+    let a = c .before .before .before .args in
+    let lines : length (a .t1 .lines) ≡ 256 = length-lowered (the-line .to) (a .t1 .lines) 256
+    (c .before .before .before .good .0 .1 .1 .1 .1 .1 .1 .0 .1 .0 .1) in (
+      search needs,
+      c .row-size .ensures .0 ∙ footprint-size-is (a .t1) (a .footprint) (search needs) lines,
+      search needs,
+      c .row-size .ensures .2,
+      given-none (a .registers) (a .own) (footprint-of (list-of (a .t1)) (a .footprint)),
+    )
 
-line-at-requires : tie.Need-line-at-requires Inv-loop μ-loop
-line-at-requires c κs = search needs
+mul-line : tie.Need-mul-line Inv-loop μ-loop
+mul-line c = omega (arith, c .before .loop .inv .3 (omega arith))
+
+add-line : tie.Need-add-line Inv-loop μ-loop
+add-line c = omega (arith, c .before .loop .inv .3 (omega arith))
+
+mul-line-2 : tie.Need-mul-line-2 Inv-loop μ-loop
+mul-line-2 c = omega (arith, c .before .loop .inv .3 (omega arith))
+
+element-copy-out-line : tie.Need-element-copy-out-line Inv-loop μ-loop
+element-copy-out-line c = omega (arith, c .before .loop .inv .3 (omega arith))
 
 location-of-requires : tie.Need-location-of-requires Inv-loop μ-loop
 location-of-requires c κs = search needs
@@ -48,18 +68,21 @@ line-fault-requires c κs = search needs
 
 returns : tie.Need-returns Inv-loop μ-loop
 returns c =
-    let a = c .before .before .before .before .before .before .before .before .before .before .args in
+    let start = c .before .before .before .before .before .before .before .before .before .before .before .before in
+    let a = start .args in
     let at = c .before .before .before .before .before .before .before .before .loop in
-    let line = c .before .before .before .before .before .before .line-at in
     let place = c .before .before .before .before .before .location-of in
     let asked = c .before .before .before .before .mode-of in
     let mine = c .before .before .before .mode-in in
     let earlier = c .before .before .mode-in2 in
     let fault = c .before .line-fault in
-    given-denied (a .registers) (a .own) (footprint-of (list-of (a .tables)) (a .footprint)) (at .modes) (at .j) (place .result) (asked .result) (fault .result) (line .result)
-    (omega arith) (line .ensures) (place .ensures) (asked .ensures)
+    let line : Line = getD (a .t1 .lines) (8 * a .footprint + at .j) blank-line in
+    let lines : length (a .t1 .lines) ≡ 256 = length-lowered (the-line .to) (a .t1 .lines) 256 (start .good .0 .1 .1 .1 .1 .1 .1 .0 .1 .0 .1) in
+    let inside : at .j < length (footprint-of (list-of (a .t1)) (a .footprint)) = omega arith in
+    given-denied (a .registers) (a .own) (footprint-of (list-of (a .t1)) (a .footprint)) (at .modes) (at .j) (place .result) (asked .result) (fault .result) line
+    inside (line-is (a .t1) (a .footprint) (search needs) lines (at .j) inside blank-line blank-line) (place .ensures) (asked .ensures)
     (fault-of (a .own) (at .modes) (place .result) (asked .result) (mine .result) (earlier .result) (fault .result)
-    (fault .ensures) (mine .ensures) (earlier .ensures)) (at .inv .3) (c .if1 .taken)
+    (fault .ensures) (mine .ensures) (earlier .ensures)) (at .inv .4) (c .if1 .taken)
 
 with-mode-requires : tie.Need-with-mode-requires Inv-loop μ-loop
 with-mode-requires c κs = search needs
@@ -72,29 +95,33 @@ loop-less c = search needs
 
 loop-again : tie.Need-loop-again Inv-loop μ-loop
 loop-again c =
-    let a = c .before .before .before .before .before .before .before .before .before .before .before .args in
+    let start = c .before .before .before .before .before .before .before .before .before .before .before .before .before in
+    let a = start .args in
     let at = c .before .before .before .before .before .before .before .before .before .loop in
-    let line = c .before .before .before .before .before .before .before .line-at in
     let place = c .before .before .before .before .before .before .location-of in
     let asked = c .before .before .before .before .before .mode-of in
     let mine = c .before .before .before .before .mode-in in
     let earlier = c .before .before .before .mode-in2 in
-    let fault = c .before .before .line-fault in (
+    let fault = c .before .before .line-fault in
+    let line : Line = getD (a .t1 .lines) (8 * a .footprint + at .j) blank-line in
+    let lines : length (a .t1 .lines) ≡ 256 = length-lowered (the-line .to) (a .t1 .lines) 256 (start .good .0 .1 .1 .1 .1 .1 .1 .0 .1 .0 .1) in
+    let inside : at .j < length (footprint-of (list-of (a .t1)) (a .footprint)) = omega arith in (
       search needs,
       search needs,
       search needs,
-      subst (λ m. Given (a .registers) (a .own) (footprint-of (list-of (a .tables)) (a .footprint)) m (at .j + 1)) (sym (c .with-mode .ensures))
-          (given-more (a .registers) (a .own) (footprint-of (list-of (a .tables)) (a .footprint)) (at .modes) (at .j) (place .result) (asked .result) (fault .result) (line .result)
-          (omega arith) (line .ensures) (place .ensures) (asked .ensures)
+      at .inv .3,
+      subst (λ m. Given (a .registers) (a .own) (footprint-of (list-of (a .t1)) (a .footprint)) m (at .j + 1)) (sym (c .with-mode .ensures))
+          (given-more (a .registers) (a .own) (footprint-of (list-of (a .t1)) (a .footprint)) (at .modes) (at .j) (place .result) (asked .result) (fault .result) line
+          inside (line-is (a .t1) (a .footprint) (search needs) lines (at .j) inside blank-line blank-line) (place .ensures) (asked .ensures)
           (fault-of (a .own) (at .modes) (place .result) (asked .result) (mine .result) (earlier .result) (fault .result)
-          (fault .ensures) (mine .ensures) (earlier .ensures)) (at .inv .3) (c .before .if1 .left)),
+          (fault .ensures) (mine .ensures) (earlier .ensures)) (at .inv .4) (c .before .if1 .left)),
     )
 
 returns-2 : tie.Need-returns-2 Inv-loop μ-loop
 returns-2 c =
-    let a = c .before .before .before .args in
+    let a = c .before .before .before .before .before .args in
     let at = c .before .loop in
-    given-all (a .registers) (a .own) (footprint-of (list-of (a .tables)) (a .footprint)) (at .modes) (at .j) (omega arith) (at .inv .3)
+    given-all (a .registers) (a .own) (footprint-of (list-of (a .t1)) (a .footprint)) (at .modes) (at .j) (omega arith) (at .inv .4)
 
 pub granted-spec : {M : Type 1} → statement M
 granted-spec =
@@ -102,9 +129,12 @@ granted-spec =
     (tie.spec
     Inv-loop
     μ-loop
-    footprint-size-requires
+    row-size-requires
     loop-holds
-    line-at-requires
+    mul-line
+    add-line
+    mul-line-2
+    element-copy-out-line
     location-of-requires
     mode-of-requires
     mode-in-requires

@@ -1,7 +1,6 @@
 -- The size of its row.
 -- Assumes nothing.
-use mathlib.Core.Path.{_≡_, _∙_}
-use lib.ListN.{length}
+use mathlib.Core.Path.{_∙_}
 use Rattle.tasklist.proofs.Line.{the-type as the-line}
 use Rattle.tasklist.proofs.PlaceLaws.{length-lowered}
 use Rattle.listing.proofs.AccessLaws.{footprint-size-is}

@@ -1,9 +1,8 @@
 -- A place within the row, else the blank.
 -- Assumes nothing.
-use Prim.Native.Nat.{_+_, _*_, _<_, _≤_}
-use mathlib.Core.Path.{_≡_, sym}
+use mathlib.Core.Path.{sym}
 use native.Mathlib.Omega.{arith}
-use lib.ListN.{length, List·getD-eq-default}
+use lib.ListN.{List·getD-eq-default}
 use Rattle.tasklist.specs.TaskList.{body-of, instruction-of, blank-instruction}
 use Rattle.tasklist.specs.Tables.{list-of, blank-cell}
 use Rattle.tasklist.proofs.Cell.{the-type as the-cell}

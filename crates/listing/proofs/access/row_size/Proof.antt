@@ -1,7 +1,6 @@
 -- Within the used rows the row's size, else none.
 -- Assumes nothing.
-use Prim.Native.Nat.{_≤_, _<_, min}
-use mathlib.Core.Path.{_≡_, _∙_}
+use mathlib.Core.Path.{_∙_}
 use native.Mathlib.Omega.{arith}
 use Rattle.listing.proofs.AccessLaws.{size-used, size-none}
 use borrow.Author.Needs.{needs}

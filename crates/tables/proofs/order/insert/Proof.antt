@@ -1,6 +1,6 @@
 -- The first left + 1 but for place i are the first left of the order at first.
 -- Assumes nothing.
-use Prim.Native.Nat.{_-_, _≤_, _<_}
+use Prim.Native.Nat.{_≤_, _<_}
 use mathlib.Core.Path.{_≡_, refl, subst, _∙_}
 use lib.ListN.{length, length-set}
 use native.Mathlib.Omega.{arith}

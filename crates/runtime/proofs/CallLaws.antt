@@ -41,9 +41,35 @@ use Rattle.runtime.specs.declared.Run.{Run}
 use Rattle.runtime.specs.declared.Called.{Called}
 use Rattle.runtime.specs.View.{tasks-from, model, context-of, SoundRun, blank-record}
 use Rattle.runtime.specs.Calls.{call-of, decided, CalledAs, CallsMade}
-use Rattle.runtime.specs.Parts.{Placed, no-record, record-of, start-effect, end-effect, with-state, heavier, applied, started, EndedAs}
+use Rattle.runtime.specs.Parts.{Placed, no-record, record-of, start-effect, end-effect, with-state, heavier}
 use Rattle.runtime.specs.Steps.{WholeRun}
 use Rattle.runtime.proofs.ViewLaws.{same-run, tasks-set, task-is}
+
+-- "Each accepted call adds 1 to calls and its weight to record and run": task n with another record, and another order
+unfoldable pub applied : ℕ → Record → List ℕ → ℕ → ℕ → Run → Run
+applied n t order left w run =
+    record {
+      tables = run .tables;
+      memory = run .memory;
+      records = set (run .records) n (heavier w t);
+      modes = run .modes;
+      order = order;
+      left = left;
+      calls = (run .calls + 1) % 2 ^ 32;
+      weight = (run .weight + w) % 2 ^ 32;
+    }
+
+-- "its state becomes 2"
+abbrev pub started : ℕ → Run → Run
+started n run = applied n (with-state 2 (record-of run n)) (run .order) (run .left) 5 run
+
+-- "the job leaves the order and its state becomes 3"
+pub record EndedAs (n place : ℕ) (from r : Run) : Type 0 where
+  pub run : r ≡ applied n (with-state 3 (record-of from n)) (r .order) (from .left - 1) 2 from
+  pub whole : length (from .order) ≡ 128 → length (r .order) ≡ 128
+  pub order :
+      length (from .order) ≡ 128 → place < from .left → from .left ≤ 128
+      → take (from .left - 1) (r .order) ≡ without place (take (from .left) (from .order))
 
 -- What is decided, test by test.
 module _ (run : Run) (n : ℕ) where
@@ -354,11 +380,11 @@ end-taken run n place next below h e =
     after-end s p =
         let own = with-state 3 (record-of run n) in
         let same : take (run .left - 1) (next .order) ≡ splice n (places n (own-effect (task-from own (row n (run .modes))) true 2)) (take (run .left) (run .order)) =
-        unfold places stays in e .order (p .within) (s .left) ∙ left-out run n place s p in
+        unfold places stays in e .order (s .order) (p .within) (s .left) ∙ left-out run n place s p in
         let effect : own-effect (task-from own (row n (run .modes))) true 2 ≡ end-effect run n =
         unfold weight-of fixed-weights in ap (λ t. own-effect (in-state 3 t) true 2) (sym (own-task run s n below)) in (
           ap model (e .run) ∙ applied-model run s n below own (next .order) (run .left - 1) 2 true refl (omega arith) same
               ∙ ap (λ x. apply n x (model run)) effect,
           subst Whole (sym (e .run))
-              (applied-whole run s n below own (next .order) (run .left - 1) 2 true refl (omega arith) same (e .whole) (omega (arith, s .left))),
+              (applied-whole run s n below own (next .order) (run .left - 1) 2 true refl (omega arith) same (e .whole (s .order)) (omega (arith, s .left))),
         )

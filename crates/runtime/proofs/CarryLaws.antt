@@ -2,7 +2,7 @@
 use Prim.Native.Nat.{ℕ, zero, suc, _+_, _%_, _^_, _≤_, _<_}
 use mathlib.Core.Path.{_≡_, refl, sym, ap, subst, _∙_}
 use mathlib.Core.List.{List, [], _∷_}
-use mathlib.Core.Bool.{true, false, false≢true}
+use mathlib.Core.Bool.{Bool, true, false, false≢true}
 use mathlib.Core.Logic.{inl, _≢_}
 use native.Mathlib.Omega.{arith}
 use native.Mathlib.Decide.{decLt}
@@ -18,10 +18,12 @@ use Rattle.semantics.specs.Effect.{Effect, moved, faulted, assigned, storing, c
 use Rattle.semantics.specs.Footprint.{Grant, denied, granted, child-modes}
 use Rattle.semantics.specs.Plan.{step, child-number, plan-spawn}
 use Rattle.semantics.specs.Call.{Outcome, refuse, accept, admit, settle, edited, charged, written, splice, stays, places, changes, apply}
+use Rattle.semantics.specs.Sequential.{made-by}
 use Rattle.semantics.specs.Answers.{task-from}
 use Rattle.semantics.proofs.Decide.{Accepts, decide-accept}
 use Rattle.semantics.proofs.Bounds.{room}
 use Rattle.semantics.proofs.Valid.{number-above, made-below}
+use Rattle.tables.specs.Places.{insert-at}
 use Rattle.tables.specs.Rows.{row, with}
 use Rattle.tables.specs.Grants.{spawner, granted-by, grant-of}
 use Rattle.tables.specs.Numbers.{number-by}
@@ -36,10 +38,59 @@ use Rattle.runtime.specs.declared.StepPlan.{StepPlan}
 use Rattle.runtime.specs.declared.StepPlan.the-variants as Planned
 use Rattle.runtime.specs.View.{tasks-from, model, context-of, SoundRun}
 use Rattle.runtime.specs.Calls.{call-of, decided, CalledAs}
-use Rattle.runtime.specs.Parts.{Placed, record-of, applied}
-use Rattle.runtime.specs.Steps.{planned, holds-back, passed, failed, holding, newborn, onward, with-memory, putting, with-child, BornAs, WholeRun, Carries}
+use Rattle.runtime.specs.Parts.{Placed, record-of}
+use Rattle.runtime.specs.Steps.{planned, passed, failed, holding, newborn, WholeRun, Carries}
 use Rattle.runtime.proofs.ViewLaws.{same-run}
-use Rattle.runtime.proofs.CallLaws.{list-accepted, own-task, called-taken, own-effect, applied-model, applied-whole, splice-self}
+use Rattle.runtime.proofs.CallLaws.{applied, list-accepted, own-task, called-taken, own-effect, applied-model, applied-whole, splice-self}
+
+-- task n with another record, one call on
+abbrev pub onward : ℕ → Record → ℕ → Run → Run
+onward n t w run = applied n t (run .order) (run .left) w run
+
+-- the run with another memory
+abbrev pub with-memory : List ℕ → Run → Run
+with-memory memory run =
+    record {
+      tables = run .tables;
+      memory = memory;
+      records = run .records;
+      modes = run .modes;
+      order = run .order;
+      left = run .left;
+      calls = run .calls;
+      weight = run .weight;
+    }
+
+-- the run with another number at a location
+abbrev pub putting : ℕ → ℕ → Run → Run
+putting a v run = with-memory (set (run .memory) a v) run
+
+-- the run with a task made, these modes and this order
+abbrev pub with-rows : ℕ → Record → List ℕ → List ℕ → Run → Run
+with-rows child made modes order run =
+    record {
+      tables = run .tables;
+      memory = run .memory;
+      records = set (run .records) child made;
+      modes = modes;
+      order = order;
+      left = run .left + 1;
+      calls = run .calls;
+      weight = run .weight;
+    }
+
+abbrev pub with-child : ℕ → Record → List ℕ → List ℕ → Run → Run
+with-child child made row order run = with-rows child made (with child row (run .modes)) order run
+
+-- "directly ahead of its spawner in the order"
+pub record BornAs (place child : ℕ) (made : Record) (row : List ℕ) (from r : Run) : Type 0 where
+  pub list : r .tables ≡ from .tables
+  pub wide : length row ≡ 64
+  pub run : length (from .modes) ≡ 8192 → child < 128 → from .left < 128 → r ≡ with-child child made row (r .order) from
+  pub whole : child < 128 → from .left < 128 → length (from .order) ≡ 128 → length (r .order) ≡ 128
+  pub order :
+      length (from .order) ≡ 128 → child < 128 → from .left < 128 → place ≤ from .left
+      → take (from .left + 1) (r .order) ≡ insert-at place child (take (from .left) (from .order))
 
 -- A task with a record and a row more.
 tasks-other :
@@ -83,13 +134,6 @@ same-effect d e q = ap (effect-in d) q
 
 small-more : (a b : ℕ) → a ≤ 32 → b ≤ 256 → (a + b) % 2 ^ 32 ≡ a + b
 small-more a b h k = omega arith
-
--- the code's run with a number stored
-pub stored-is :
-    (run x : Run) (n w a v : ℕ) (own : Record) (m : List ℕ) → x ≡ onward n own w run → m ≡ set (run .memory) a v
-    → with-memory m x ≡ putting a v (onward n own w run)
-unfolding applied
-stored-is run x n w a v own m q h = ap (λ l. with-memory l x) h ∙ ap (with-memory (set (run .memory) a v)) q
 
 -- The task's own record, one step on.
 module _ (run : Run) (n : ℕ) (below : n < 128) (s : SoundRun run) where
@@ -346,7 +390,7 @@ module _ (run : Run) (n place w : ℕ) (below : n < 128) where
             left-here = unfold applied in room-left
 
             r-is : r ≡ with-child number (newborn body (record-of run n)) (g .modes) (r .order) (onward n (passed 0 (record-of run n)) w run)
-            r-is = b .run number-small left-here
+            r-is = b .run (unfold applied in s .modes) number-small left-here
 
             new-task : task-from (newborn body (record-of run n)) (g .modes) ≡ child body (g .modes) (task-of (model run) n)
             new-task = ap (λ t. child body (g .modes) t) (sym (own-task run s n below))
@@ -376,7 +420,7 @@ module _ (run : Run) (n place w : ℕ) (below : n < 128) where
             born-order : take (run .left + 1) (r .order) ≡ apply n made-effect (model run) .order
             unfolding apply places stays model applied
             born-order =
-                b .order number-small room-left (omega (arith, p .within))
+                b .order (s .order) number-small room-left (omega (arith, p .within))
                 ∙ insert-splice n number (take (run .left) (run .order)) place (s .sound .valid .distinct)
                 (omega (arith, p .within, whole-order)) (p .here)
 
@@ -400,7 +444,7 @@ module _ (run : Run) (n place w : ℕ) (below : n < 128) where
                   memory = h .memory;
                   records = length-set (x .records) number (newborn body (record-of run n)) ∙ h .records;
                   modes = with-length number (g .modes) (x .modes) (b .wide) (h .modes) number-small;
-                  order = b .whole number-small left-here;
+                  order = b .whole number-small left-here (h .order);
                   left = omega (arith, left-here);
                 })
 
@@ -422,6 +466,33 @@ module _ (run : Run) (n place w : ℕ) (below : n < 128) where
               let d′ : decided run step n ≡ accept (made-effect q s light) = d ∙ ap accept (sym same) in
               let b′ = subst (λ j. BornAs place j (newborn body (record-of run n)) (g .modes) (onward n (passed 0 (record-of run n)) w run) r) (counted below ∙ number-is q s light p d′) b in
               (born-model q s light p d′ r b′ ∙ ap (λ x. apply n x (model run)) same, born-whole q s light p d′ r b′)
+
+      -- the task that it makes
+      pub granted-makes :
+          g .grant ≡ Granted.Granted → (k : ℕ) → (n < 128 → k ≡ number-by (run .tables) n (record-of run n .body) (record-of run n .pc))
+          → SoundRun run → w ≤ 8 → Placed run n place → decided run step n ≡ planned run n w (Planned.Spawn body f)
+          → (made-by (decided run step n) ≡ k ∷ []) × (k < 128) × (run .left < 128)
+      granted-makes q k counted s light p d =
+          let d′ : decided run step n ≡ accept (made-effect q s light) = d ∙ made-planned q s light in
+          let same : k ≡ number q s light = counted below ∙ number-is q s light p d′ in (
+            ap made-by d′ ∙ ap (λ j. j ∷ []) (sym same),
+            subst (λ j. j < 128) (sym same) (number-small q s light p d′),
+            room-left q s light p d′,
+          )
+
+      pub denied-makes :
+          (k : ℕ) → g .grant ≡ Granted.Denied k → SoundRun run → decided run step n ≡ planned run n w (Planned.Spawn body f)
+          → made-by (decided run step n) ≡ []
+      denied-makes k q s d =
+          ap made-by (d ∙ by-grant (denied k) (ap (λ x. granted-by x (g .modes)) q) s) ∙ (unfold plan-spawn settle admit every in refl)
+
+abbrev pub holds-back : StepPlan → Bool
+holds-back Planned.Held = true
+holds-back (Planned.Fault k) = false
+holds-back (Planned.Assign a v) = false
+holds-back (Planned.Pass k) = false
+holds-back (Planned.Store a v) = false
+holds-back (Planned.Spawn s f) = false
 
 -- the effect of a plan that is not held back
 module _ (run : Run) (n w : ℕ) where

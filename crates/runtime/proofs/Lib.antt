@@ -6,3 +6,6 @@ pub mod CallLaws
 pub mod StepLaws
 pub mod CarryLaws
 pub mod MadeLaws
+pub mod ChangeLaws
+pub mod SpawnLaws
+pub mod StepChangeLaws

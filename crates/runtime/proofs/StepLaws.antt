@@ -32,7 +32,7 @@ use Rattle.runtime.specs.declared.StepPlan.the-variants as Planned
 use Rattle.runtime.specs.View.{model, context-of, SoundRun}
 use Rattle.runtime.specs.Calls.{decided}
 use Rattle.runtime.specs.Parts.{Placed, record-of}
-use Rattle.runtime.specs.Steps.{fault-at, AccessAs, planned, settled, Plans, PlansFree, FreeAs, WaitAs, holds-back}
+use Rattle.runtime.specs.Steps.{fault-at, AccessAs, planned, settled, Plans, PlansFree, FreeAs, WaitAs}
 use Rattle.runtime.proofs.ViewLaws.{mode-is}
 use Rattle.runtime.proofs.CallLaws.{by-plan, own-task, rows-same, own-state}
 
@@ -339,12 +339,3 @@ module _ (run : Run) (n : ℕ) (below : n < 128) (s : SoundRun run) (place : ℕ
     step-settled q i code e f x h =
         model-step q i (e ∙ ap (λ t. instruction-of (list-of (run .tables)) (t .body) (t .pc)) (sym (own-task run s n below)))
         ∙ h s p (step-weight (context-of run) i) ∙ ap (λ k. planned run n (weight-of (context-of run) (k + 2)) x) (sym f)
-
-pub held-refused : (run : Run) (n w : ℕ) (x : StepPlan) → holds-back x ≡ true → planned run n w x ≡ refuse 12
-unfolding planned
-held-refused run n w Planned.Held h = refl
-held-refused run n w (Planned.Fault k) h = absurd (false≢true h)
-held-refused run n w (Planned.Assign a v) h = absurd (false≢true h)
-held-refused run n w (Planned.Pass k) h = absurd (false≢true h)
-held-refused run n w (Planned.Store a v) h = absurd (false≢true h)
-held-refused run n w (Planned.Spawn a f) h = absurd (false≢true h)

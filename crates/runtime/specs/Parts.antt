@@ -78,31 +78,6 @@ heavier w t =
       weight = (t .weight + w) % 2 ^ 32;
     }
 
--- "Each accepted call adds 1 to calls and its weight to record and run": task n with another record, and another order
-unfoldable pub applied : ℕ → Record → List ℕ → ℕ → ℕ → Run → Run
-applied n t order left w run =
-    record {
-      tables = run .tables;
-      memory = run .memory;
-      records = set (run .records) n (heavier w t);
-      modes = run .modes;
-      order = order;
-      left = left;
-      calls = (run .calls + 1) % 2 ^ 32;
-      weight = (run .weight + w) % 2 ^ 32;
-    }
-
--- "its state becomes 2"
-abbrev pub started : ℕ → Run → Run
-started n run = applied n (with-state 2 (record-of run n)) (run .order) (run .left) 5 run
-
--- "the job leaves the order and its state becomes 3"
-pub record EndedAs (n place : ℕ) (from r : Run) : Type 0 where
-  pub run : r ≡ applied n (with-state 3 (record-of from n)) (r .order) (from .left - 1) 2 from
-  pub whole : length (r .order) ≡ 128
-  pub order :
-      place < from .left → from .left ≤ 128 → take (from .left - 1) (r .order) ≡ without place (take (from .left) (from .order))
-
 -- "job 0 alone in the order, all other records zero, calls and weight 0": the code's run of these tables and this memory
 pub record InitialOf (t : Tables) (numbers : List ℕ) (r : Run) : Type 0 where
   pub tables : r .tables ≡ t

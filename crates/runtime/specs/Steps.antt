@@ -25,11 +25,9 @@ use Rattle.runtime.specs.declared.Access.{Access}
 use Rattle.runtime.specs.declared.Access.the-variants as Found
 use Rattle.runtime.specs.declared.StepPlan.{StepPlan}
 use Rattle.runtime.specs.declared.StepPlan.the-variants as Planned
-use Rattle.runtime.specs.declared.Stepping.{Stepping}
-use Rattle.runtime.specs.declared.Stepping.the-variants.{Refused, Taken}
 use Rattle.runtime.specs.View.{model, context-of, SoundRun}
 use Rattle.runtime.specs.Calls.{decided}
-use Rattle.runtime.specs.Parts.{Placed, record-of, applied}
+use Rattle.runtime.specs.Parts.{Placed, record-of}
 
 -- the fault of task n's access
 abbrev pub fault-at : Run → ℕ → ℕ → ℕ → ℕ
@@ -120,21 +118,6 @@ abbrev pub WaitIn : List ℕ → List ℕ → List ℕ → List ℕ → ℕ → 
 WaitIn order modes memory registers n place i p =
     (run : Run) → run .memory ≡ memory → record-of run n .registers ≡ registers → WaitAs (looking order modes run) n place i p
 
-abbrev pub holds-back : StepPlan → Bool
-holds-back Planned.Held = true
-holds-back (Planned.Fault k) = false
-holds-back (Planned.Assign a v) = false
-holds-back (Planned.Pass k) = false
-holds-back (Planned.Store a v) = false
-holds-back (Planned.Spawn s f) = false
-
--- what comes of a step of task n: refused, or this plan of the task at this place
-abbrev pub SteppingAs : Run → ℕ → Stepping → Type 0
-SteppingAs run n (Refused k) = SoundRun run → decided run step n ≡ refuse (refusal-number k)
-SteppingAs run n (Taken p place w) =
-    (n < 128) × (holds-back p ≡ false) × (w ≤ 8)
-    × (SoundRun run → Placed run n place × (decided run step n ≡ planned run n w p))
-
 -- "place rises by 1 plus what a skip passes over, instructions done by 1", as 32 bits hold them
 abbrev pub passed : ℕ → Record → Record
 passed over t =
@@ -184,55 +167,6 @@ newborn s t =
       fault = 0;
       weight = 0;
     }
-
--- task n with another record, one call on
-abbrev pub onward : ℕ → Record → ℕ → Run → Run
-onward n t w run = applied n t (run .order) (run .left) w run
-
--- the run with another memory
-abbrev pub with-memory : List ℕ → Run → Run
-with-memory memory run =
-    record {
-      tables = run .tables;
-      memory = memory;
-      records = run .records;
-      modes = run .modes;
-      order = run .order;
-      left = run .left;
-      calls = run .calls;
-      weight = run .weight;
-    }
-
--- the run with another number at a location
-abbrev pub putting : ℕ → ℕ → Run → Run
-putting a v run = with-memory (set (run .memory) a v) run
-
--- the run with a task made, these modes and this order
-abbrev pub with-rows : ℕ → Record → List ℕ → List ℕ → Run → Run
-with-rows child made modes order run =
-    record {
-      tables = run .tables;
-      memory = run .memory;
-      records = set (run .records) child made;
-      modes = modes;
-      order = order;
-      left = run .left + 1;
-      calls = run .calls;
-      weight = run .weight;
-    }
-
-abbrev pub with-child : ℕ → Record → List ℕ → List ℕ → Run → Run
-with-child child made row order run = with-rows child made (with child row (run .modes)) order run
-
--- "directly ahead of its spawner in the order"
-pub record BornAs (place child : ℕ) (made : Record) (row : List ℕ) (from r : Run) : Type 0 where
-  pub list : r .tables ≡ from .tables
-  pub wide : length row ≡ 64
-  pub run : child < 128 → from .left < 128 → r ≡ with-child child made row (r .order) from
-  pub whole : child < 128 → from .left < 128 → length (r .order) ≡ 128
-  pub order :
-      child < 128 → from .left < 128 → place ≤ from .left
-      → take (from .left + 1) (r .order) ≡ insert-at place child (take (from .left) (from .order))
 
 -- the arrays are whole
 pub record WholeRun (run : Run) : Type 0 where

@@ -1,34 +1,34 @@
 // Start and end. Each looks first, which answers something small, and then carries out what it found.
-ghost use Prim.Native.Nat.{_-_, _<_};
+ghost use Prim.Native.Nat.{ℕ, _-_, _<_};
 ghost use mathlib.Core.Path.{_≡_};
-ghost use mathlib.Core.List.{[], _∷_};
-ghost use Rattle.semantics.specs.Run.{task-of};
-ghost use Rattle.semantics.specs.Plan.{at-end, start, «end»};
-ghost use Rattle.runtime.specs.View.{model, context-of, SoundRun};
-ghost use Rattle.runtime.specs.Calls.{call-of, CalledAs, CallsMade};
-ghost use Rattle.runtime.specs.Parts.{LocatedAs, PlannedAs, start-effect, end-effect, started, EndedAs};
+ghost use Rattle.semantics.specs.Plan.{Action, start, «end»};
+ghost use Rattle.runtime.specs.Calls.{CalledAs};
+ghost use Rattle.runtime.specs.Changes.{LocatedIn, finished, StartIn, EndIn, StartedBy, EndedBy};
 use crate::Called;
+use crate::Change;
 use crate::Located;
 use crate::Run;
-use crate::state::applied;
+use crate::carry::changed;
+use crate::carry::in_state;
+use crate::carry::unchanged;
 use semantics::Answer;
 use semantics::CallRefusal;
+use semantics::Record;
 use tables::Place;
 
 // "start 5, end 2, codes 0 to 8: 1, 1, 1, 1, 3, 4, 1, 8, 1"
 pub const WEIGHTS: [u32; 11] = [5, 2, 1, 1, 1, 1, 3, 4, 1, 8, 1];
 
 // The place of a task in the order: 9, then 10.
-pub fn place_of(run: Run, task: u32) -> Located
-    ensures { λ r. ⌜ LocatedAs run task r ⌝ }
+pub fn place_of(order: &[u8; 128], left: usize, task: u32) -> Located
+    ensures { λ r. ⌜ LocatedIn (now (order .entry)) left task r ⌝ }
 {
     if 127 < task {
         return Located::Refused {
             refusal: CallRefusal::Number,
         };
     }
-    let left = run.left;
-    let found = tables::position(&run.order, left, task as u8);
+    let found = tables::position(order, left, task as u8);
     match found {
         Place::Absent => Located::Refused {
             refusal: CallRefusal::Absent,
@@ -37,39 +37,37 @@ pub fn place_of(run: Run, task: u32) -> Located
     }
 }
 
-// Whether a task is at the end of its body or after a fault; so is a number above 127.
-pub fn at_end(run: Run, task: usize) -> bool
-    ensures { λ r. ⌜ (task < 128 → SoundRun run → r ≡ at-end (context-of run) (task-of (model run) task)) ⌝ }
+// Whether a task with this record is at the end of its body, of so many instructions, or after a fault.
+pub fn at_end(own: Record, size: usize) -> bool
+    ensures { λ r. ⌜ r ≡ finished size own ⌝ }
 {
-    if 127 < task {
-        return true;
-    }
-    let own = run.records[task];
     if own.fault != 0 {
         return true;
     }
-    let tables = run.tables;
-    let size = listing::body_size(tables, own.body as usize);
     size <= own.pc as usize
 }
 
 // What comes of a start: the task's place, or 9, 10, 11, 12.
-fn start_plan(run: Run, task: u32) -> Located
-    ensures { λ r. ⌜ PlannedAs start (start-effect run task) run task r ⌝ }
+fn start_look<'a>(
+    order: &'a [u8; 128],
+    modes: &'a [u8; 8192],
+    left: usize,
+    own: Record,
+    task: u32,
+) -> Located
+    ensures { λ r. ⌜ StartIn (now (order .entry)) (now (modes .entry)) left own task r ⌝ }
 {
-    let found = place_of(run, task);
+    let found = place_of(order, left, task);
     match found {
         Located::Refused { refusal } => Located::Refused { refusal },
         Located::At { place } => {
-            let n = task as usize;
-            let own = run.records[n];
             if own.state != 1 {
                 return Located::Refused {
                     refusal: CallRefusal::Started,
                 };
             }
-            let wanted = tables::row_of(&run.modes, n);
-            if tables::blocked(&run.order, place, &run.modes, wanted) {
+            let wanted = tables::row_of(modes, task as usize);
+            if tables::blocked(order, place, modes, wanted) {
                 return Located::Refused {
                     refusal: CallRefusal::Blocked,
                 };
@@ -80,21 +78,19 @@ fn start_plan(run: Run, task: u32) -> Located
 }
 
 // What comes of an end: the task's place, or 9, 10, 13, 15.
-fn end_plan(run: Run, task: u32) -> Located
-    ensures { λ r. ⌜ PlannedAs «end» (end-effect run task) run task r ⌝ }
+fn end_look(order: &[u8; 128], left: usize, own: Record, size: usize, task: u32) -> Located
+    ensures { λ r. ⌜ EndIn (now (order .entry)) left own size task r ⌝ }
 {
-    let found = place_of(run, task);
+    let found = place_of(order, left, task);
     match found {
         Located::Refused { refusal } => Located::Refused { refusal },
         Located::At { place } => {
-            let n = task as usize;
-            let own = run.records[n];
             if own.state != 2 {
                 return Located::Refused {
                     refusal: CallRefusal::Waiting,
                 };
             }
-            if at_end(run, n) {
+            if at_end(own, size) {
                 return Located::At { place };
             }
             Located::Refused {
@@ -104,18 +100,6 @@ fn end_plan(run: Run, task: u32) -> Located
     }
 }
 
-// "its state becomes 2"
-fn started(run: Run, task: usize) -> Run
-    requires { ⌜ task < 128 ⌝ }
-    ensures { λ r. ⌜ r ≡ started task run ⌝ }
-{
-    let mut own = run.records[task];
-    own.state = 2;
-    let order = run.order;
-    let left = run.left;
-    applied(run, task, own, order, left, WEIGHTS[0])
-}
-
 // One less; none where there is none.
 fn fewer(left: usize) -> usize
     ensures { λ r. ⌜ r ≡ left - 1 ⌝ }
@@ -123,17 +107,51 @@ fn fewer(left: usize) -> usize
     if left == 0 { 0 } else { left - 1 }
 }
 
-// "the job leaves the order and its state becomes 3"
-fn ended(run: Run, task: usize, place: usize) -> Run
-    requires { ⌜ task < 128 ⌝ }
-    ensures { λ r. ⌜ EndedAs task place run r ⌝ }
+// A start: "its state becomes 2".
+pub fn start_change<'a>(
+    order: &'a [u8; 128],
+    modes: &'a [u8; 8192],
+    left: usize,
+    own: Record,
+    task: u32,
+) -> Change
+    ensures { λ r. ⌜ StartedBy (now (order .entry)) (now (modes .entry)) left own task r ⌝ }
 {
-    let mut own = run.records[task];
-    own.state = 3;
-    let before = run.order;
-    let left = run.left;
-    let order = tables::removed(before, left, place);
-    applied(run, task, own, order, fewer(left), WEIGHTS[1])
+    let found = start_look(order, modes, left, own, task);
+    match found {
+        Located::Refused { refusal } => unchanged(own, left, refusal),
+        Located::At { place: _ } => {
+            let next = in_state(own, 2);
+            changed(next, left, WEIGHTS[0])
+        }
+    }
+}
+
+// An end: "the job leaves the order and its state becomes 3".
+pub fn end_change(order: &mut [u8; 128], left: usize, own: Record, size: usize, task: u32) -> Change
+    ensures { λ r. ⌜ EndedBy (now (order .entry)) (now (order .exit)) left own size task r ⌝ }
+{
+    let found = end_look(order, left, own, size, task);
+    match found {
+        Located::Refused { refusal } => unchanged(own, left, refusal),
+        Located::At { place } => {
+            let next = in_state(own, 3);
+            tables::remove(order, left, place);
+            changed(next, fewer(left), WEIGHTS[1])
+        }
+    }
+}
+
+// 9: there is no such task.
+pub fn out_of_range(run: Run) -> Called
+    ensures { λ r. ⌜ ((a : Action) (n : ℕ) → 127 < n → CalledAs a run n r) ⌝ }
+{
+    Called {
+        answer: Answer::Refused {
+            refusal: CallRefusal::Number,
+        },
+        run,
+    }
 }
 
 impl Run {
@@ -141,14 +159,25 @@ impl Run {
     pub fn start(self, task: u32) -> Called
         ensures { λ r. ⌜ CalledAs start self task r ⌝ }
     {
-        let plan = start_plan(self, task);
-        match plan {
-            Located::Refused { refusal } => Called {
+        if 127 < task {
+            return out_of_range(self);
+        }
+        let n = task as usize;
+        let own = self.records[n];
+        let change = start_change(&self.order, &self.modes, self.left, own, task);
+        let answer = change.answer;
+        match answer {
+            Answer::Refused { refusal } => Called {
                 answer: Answer::Refused { refusal },
                 run: self,
             },
-            Located::At { place: _ } => {
-                let run = started(self, task as usize);
+            Answer::Accepted => {
+                let next = change.own;
+                let mut run = self;
+                run.records[n] = next;
+                run.left = change.left;
+                run.calls = std::num::wrapping_add_u32(self.calls, change.calls);
+                run.weight = std::num::wrapping_add_u32(self.weight, change.weight);
                 Called {
                     answer: Answer::Accepted,
                     run,
@@ -161,41 +190,32 @@ impl Run {
     pub fn end(self, task: u32) -> Called
         ensures { λ r. ⌜ CalledAs «end» self task r ⌝ }
     {
-        let plan = end_plan(self, task);
-        match plan {
-            Located::Refused { refusal } => Called {
+        if 127 < task {
+            return out_of_range(self);
+        }
+        let n = task as usize;
+        let own = self.records[n];
+        let tables = self.tables;
+        let size = listing::row_size(tables.bodies, &tables.sizes, 32, own.body as usize);
+        let mut run = self;
+        let change = end_change(&mut run.order, self.left, own, size, task);
+        let answer = change.answer;
+        match answer {
+            Answer::Refused { refusal } => Called {
                 answer: Answer::Refused { refusal },
                 run: self,
             },
-            Located::At { place } => {
-                let run = ended(self, task as usize, place);
+            Answer::Accepted => {
+                let next = change.own;
+                run.records[n] = next;
+                run.left = change.left;
+                run.calls = std::num::wrapping_add_u32(self.calls, change.calls);
+                run.weight = std::num::wrapping_add_u32(self.weight, change.weight);
                 Called {
                     answer: Answer::Accepted,
                     run,
                 }
             }
-        }
-    }
-
-    // The run after a start, whatever is answered.
-    pub fn started(self, task: u32) -> Run
-        ensures { λ r. ⌜ CallsMade (call-of start task ∷ []) self r ⌝ }
-    {
-        let plan = start_plan(self, task);
-        match plan {
-            Located::Refused { refusal: _ } => self,
-            Located::At { place: _ } => started(self, task as usize),
-        }
-    }
-
-    // The run after an end, whatever is answered.
-    pub fn ended(self, task: u32) -> Run
-        ensures { λ r. ⌜ CallsMade (call-of «end» task ∷ []) self r ⌝ }
-    {
-        let plan = end_plan(self, task);
-        match plan {
-            Located::Refused { refusal: _ } => self,
-            Located::At { place } => ended(self, task as usize, place),
         }
     }
 }

@@ -1,17 +1,19 @@
 // A step carried out: the task's new record, and what else changes.
 ghost use Prim.Native.Nat.{_<_};
 ghost use mathlib.Core.Path.{_≡_};
-ghost use lib.ListN.{set};
-ghost use Rattle.runtime.specs.Steps.{passed, failed, holding, newborn, onward, putting, BornAs, Carries};
-ghost use Rattle.runtime.specs.declared.StepPlan.the-variants.{Spawn};
-use crate::Run;
-use crate::StepPlan;
-use crate::state::applied;
+ghost use lib.ListN.{length, set};
+ghost use Rattle.runtime.specs.Parts.{with-state};
+ghost use Rattle.runtime.specs.Steps.{passed, failed, holding, newborn};
+ghost use Rattle.runtime.specs.Changes.{kept, counted, SpawnedBy};
+use crate::Change;
+use semantics::Answer;
+use semantics::CallRefusal;
 use semantics::Record;
 use tables::Grant;
+use tasklist::Tables;
 
 // "place rises by 1 plus what a skip passes over, instructions done by 1"
-fn passed(own: Record, over: u8) -> Record
+pub fn passed(own: Record, over: u8) -> Record
     ensures { λ r. ⌜ (r ≡ passed over own) × (over < 256) ⌝ }
 {
     let count = 1 + (over as u32);
@@ -22,7 +24,7 @@ fn passed(own: Record, over: u8) -> Record
 }
 
 // "done rises, but no place, register, entry or other job changes, and the job is then at its end"
-fn failed(own: Record, fault: u8) -> Record
+pub fn failed(own: Record, fault: u8) -> Record
     ensures { λ r. ⌜ r ≡ failed fault own ⌝ }
 {
     let mut next = own;
@@ -45,7 +47,7 @@ fn with_register(registers: [u32; 4], target: u8, value: u32) -> [u32; 4]
 }
 
 // A record with a value in a register.
-fn holding(own: Record, target: u8, value: u32) -> Record
+pub fn holding(own: Record, target: u8, value: u32) -> Record
     ensures { λ r. ⌜ r ≡ holding target value own ⌝ }
 {
     let before = own.registers;
@@ -55,16 +57,14 @@ fn holding(own: Record, target: u8, value: u32) -> Record
     next
 }
 
-// The memory with another number at a location; the same where there is no such location.
-fn with_value(memory: [u32; 64], location: usize, value: u32) -> [u32; 64]
-    ensures { λ r. ⌜ r ≡ set memory location value ⌝ }
+// Puts a number at a location; leaves the memory where there is no such location.
+pub fn store(memory: &mut [u32; 64], location: usize, value: u32)
+    ensures { λ r. ⌜ (length (now (memory .entry)) ≡ 64 → now (memory .exit) ≡ set (now (memory .entry)) location value) ⌝ }
 {
     if 63 < location {
-        return memory;
+        return;
     }
-    let mut out = memory;
-    out[location] = value;
-    out
+    memory[location] = value;
 }
 
 // "the new job waiting, at place 0, with its sheet .. and a copy of the registers"
@@ -83,103 +83,96 @@ fn newborn(own: Record, body: u8) -> Record
     }
 }
 
-// `task` with the record `own`, one call on.
-fn onward(run: Run, task: usize, own: Record, weight: u32) -> Run
-    requires { ⌜ task < 128 ⌝ }
-    ensures { λ r. ⌜ r ≡ onward task own weight run ⌝ }
+// A record with another state.
+pub fn in_state(own: Record, state: u8) -> Record
+    ensures { λ r. ⌜ r ≡ with-state state own ⌝ }
 {
-    let order = run.order;
-    let left = run.left;
-    applied(run, task, own, order, left, weight)
-}
-
-// The same with a number stored.
-fn stored(run: Run, task: usize, own: Record, weight: u32, location: usize, value: u32) -> Run
-    requires { ⌜ task < 128 ⌝ }
-    ensures { λ r. ⌜ r ≡ putting location value (onward task own weight run) ⌝ }
-{
-    let mut next = onward(run, task, own, weight);
-    let before = run.memory;
-    let memory = with_value(before, location, value);
-    next.memory = memory;
+    let mut next = own;
+    next.state = state;
     next
 }
 
-// The run with task `child` made, directly ahead of the task at `place`; the same run where there is no room.
-fn born(run: Run, place: usize, child: usize, made: Record, row: [u8; 64]) -> Run
-    ensures { λ r. ⌜ BornAs place child made row run r ⌝ }
+// A call that is refused.
+pub fn unchanged(own: Record, left: usize, refusal: CallRefusal) -> Change
+    ensures { λ r. ⌜ r ≡ kept own left refusal ⌝ }
 {
-    if 127 < child {
-        return run;
+    Change {
+        answer: Answer::Refused { refusal },
+        own,
+        left,
+        calls: 0,
+        weight: 0,
+        child: 128,
+        made: own,
     }
-    let left = run.left;
-    if 127 < left {
-        return run;
+}
+
+// "Each accepted call adds 1 to calls and its weight to record and run."
+pub fn changed(own: Record, left: usize, weight: u32) -> Change
+    ensures { λ r. ⌜ r ≡ counted own left weight ⌝ }
+{
+    let mut charged = own;
+    charged.weight = std::num::wrapping_add_u32(own.weight, weight);
+    Change {
+        answer: Answer::Accepted,
+        own: charged,
+        left,
+        calls: 1,
+        weight,
+        child: 128,
+        made: own,
     }
-    let before = run.order;
-    let order = tables::inserted(before, left, place, child as u8);
-    let rows = run.modes;
-    let modes = tables::with_row(rows, child, row);
-    let mut next = run;
-    next.records[child] = made;
-    next.modes = modes;
-    next.order = order;
-    next.left = left + 1;
-    next
 }
 
 // A task is made, or the spawn faults: "A spawn that faults has no child."
-fn spawned(run: Run, task: usize, place: usize, body: u8, footprint: u8, weight: u32) -> Run
+pub fn spawned(
+    tables: Tables,
+    modes: &mut [u8; 8192],
+    order: &mut [u8; 128],
+    left: usize,
+    own: Record,
+    task: usize,
+    place: usize,
+    body: u8,
+    footprint: u8,
+    weight: u32,
+) -> Change
     requires { ⌜ task < 128 ⌝ }
-    ensures { λ r. ⌜ Carries task place weight (Spawn body footprint) run r ⌝ }
+    ensures { λ r. ⌜ SpawnedBy tables (now (modes .entry)) (now (order .entry)) (now (modes .exit)) (now (order .exit)) left own task place body footprint weight r ⌝ }
 {
-    let own = run.records[task];
-    let row = tables::row_of(&run.modes, task);
-    let tables = run.tables;
+    let row = tables::row_of(modes, task);
     let registers = own.registers;
     let granting = tables::granted(tables, footprint as usize, registers, row);
     let grant = granting.grant;
     match grant {
         Grant::Denied(fault) => {
             let next = failed(own, fault);
-            onward(run, task, next, weight)
+            changed(next, left, weight)
         }
         Grant::Granted => {
             let next = passed(own, 0);
             let child = tables::child_number(tables, task, own.body as usize, own.pc as usize);
+            let after = changed(next, left, weight);
+            if 127 < child {
+                return after;
+            }
+            if 127 < left {
+                return after;
+            }
+            let given = granting.modes;
+            tables::put_row(modes, child, given);
+            tables::insert(order, left, place, child as u8);
+            let charged = after.own;
             let made = newborn(own, body);
-            let modes = granting.modes;
-            let after = onward(run, task, next, weight);
-            born(after, place, child, made, modes)
+            Change {
+                answer: Answer::Accepted,
+                own: charged,
+                left: left + 1,
+                calls: 1,
+                weight,
+                child,
+                made,
+            }
         }
-    }
-}
-
-// The run after a step of the task at `place`, by what the step comes to.
-pub fn carried(run: Run, task: usize, place: usize, plan: StepPlan, weight: u32) -> Run
-    requires { ⌜ task < 128 ⌝ }
-    ensures { λ r. ⌜ Carries task place weight plan run r ⌝ }
-{
-    let own = run.records[task];
-    match plan {
-        StepPlan::Held => run,
-        StepPlan::Fault { fault } => {
-            let next = failed(own, fault);
-            onward(run, task, next, weight)
-        }
-        StepPlan::Assign { target, value } => {
-            let next = passed(own, 0);
-            let next = holding(next, target, value);
-            onward(run, task, next, weight)
-        }
-        StepPlan::Pass { over } => {
-            let next = passed(own, over);
-            onward(run, task, next, weight)
-        }
-        StepPlan::Store { location, value } => {
-            let next = passed(own, 0);
-            stored(run, task, next, weight, location, value)
-        }
-        StepPlan::Spawn { body, footprint } => spawned(run, task, place, body, footprint, weight),
     }
 }

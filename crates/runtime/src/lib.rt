@@ -83,16 +83,18 @@ pub enum StepPlan {
     Spawn { body: u8, footprint: u8 },
 }
 
-// What comes of a step.
-pub enum Stepping {
-    Refused {
-        refusal: CallRefusal,
-    },
-    Taken {
-        plan: StepPlan,
-        place: usize,
-        weight: u32,
-    },
+// What a call changes: the task's record, how many tasks are left, what is counted, and the task made. The memory, the modes
+// and the order are changed where they stand.
+pub struct Change {
+    pub answer: Answer,
+    pub own: Record,
+    pub left: usize,
+    // calls accepted, 1 or 0, and their weight
+    pub calls: u32,
+    pub weight: u32,
+    // the task made, above 127 for none, and its record
+    pub child: usize,
+    pub made: Record,
 }
 
 mod calls;
@@ -103,6 +105,8 @@ mod state;
 mod step;
 
 pub use calls::at_end;
-pub use calls::place_of;
+pub use calls::end_change;
+pub use calls::start_change;
 pub use opening::open;
 pub use state::blank_record;
+pub use step::step_change;

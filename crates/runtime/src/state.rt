@@ -4,7 +4,7 @@ ghost use mathlib.Core.Path.{_≡_};
 ghost use mathlib.Core.List.{_++_};
 ghost use lib.ListN.{length, take, replicate};
 ghost use Rattle.runtime.specs.View.{blank-record, blank-run};
-ghost use Rattle.runtime.specs.Parts.{applied, InitialOf};
+ghost use Rattle.runtime.specs.Parts.{InitialOf};
 use crate::Run;
 use semantics::Record;
 use tasklist::Tables;
@@ -22,29 +22,6 @@ pub fn blank_record() -> Record
         fault: 0,
         weight: 0,
     }
-}
-
-// `task` with the record `own` and the order `order` of `left` tasks: one more call, and its weight in record and run.
-pub fn applied(
-    run: Run,
-    task: usize,
-    own: Record,
-    order: [u8; 128],
-    left: usize,
-    weight: u32,
-) -> Run
-    requires { ⌜ task < 128 ⌝ }
-    ensures { λ r. ⌜ r ≡ applied task own order left weight run ⌝ }
-{
-    let mut charged = own;
-    charged.weight = std::num::wrapping_add_u32(own.weight, weight);
-    let mut next = run;
-    next.records[task] = charged;
-    next.order = order;
-    next.left = left;
-    next.calls = std::num::wrapping_add_u32(run.calls, 1);
-    next.weight = std::num::wrapping_add_u32(run.weight, weight);
-    next
 }
 
 // The run that a refused open hands back.

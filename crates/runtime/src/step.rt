@@ -1,90 +1,126 @@
 // The step: what comes of it, and what it leaves.
 ghost use mathlib.Core.Path.{_≡_};
-ghost use mathlib.Core.List.{[], _∷_};
 ghost use Rattle.semantics.specs.Plan.{step};
-ghost use Rattle.runtime.specs.Calls.{call-of, CalledAs, CallsMade};
-ghost use Rattle.runtime.specs.Steps.{holds-back, SteppingAs};
+ghost use Rattle.runtime.specs.Calls.{CalledAs};
+ghost use Rattle.runtime.specs.Changes.{ReadyIn, SteppedBy};
 use crate::Called;
+use crate::Change;
 use crate::Located;
 use crate::Run;
 use crate::StepPlan;
-use crate::Stepping;
 use crate::calls::WEIGHTS;
 use crate::calls::at_end;
+use crate::calls::out_of_range;
 use crate::calls::place_of;
-use crate::carry::carried;
+use crate::carry::changed;
+use crate::carry::failed;
+use crate::carry::holding;
+use crate::carry::passed;
+use crate::carry::spawned;
+use crate::carry::store;
+use crate::carry::unchanged;
 use crate::parts::code_of;
 use crate::parts::plan_of;
 use semantics::Answer;
 use semantics::CallRefusal;
+use semantics::Record;
+use tasklist::Tables;
 
-// Whether a plan is held back.
-fn is_held(plan: StepPlan) -> bool
-    ensures { λ r. ⌜ r ≡ holds-back plan ⌝ }
+// What comes before an instruction is looked at: 9, 10, 13, 14, or the task's place.
+fn step_look(order: &[u8; 128], left: usize, own: Record, size: usize, task: u32) -> Located
+    ensures { λ r. ⌜ ReadyIn (now (order .entry)) left own size task r ⌝ }
 {
-    match plan {
-        StepPlan::Held => true,
-        StepPlan::Fault { fault: _ } => false,
-        StepPlan::Assign {
-            target: _,
-            value: _,
-        } => false,
-        StepPlan::Pass { over: _ } => false,
-        StepPlan::Store {
-            location: _,
-            value: _,
-        } => false,
-        StepPlan::Spawn {
-            body: _,
-            footprint: _,
-        } => false,
-    }
-}
-
-// What comes of a step: 9, 10, 13, 14, 12, or what its instruction does.
-pub fn step_plan(run: Run, task: u32) -> Stepping
-    ensures { λ r. ⌜ SteppingAs run task r ⌝ }
-{
-    let found = place_of(run, task);
+    let found = place_of(order, left, task);
     match found {
-        Located::Refused { refusal } => Stepping::Refused { refusal },
+        Located::Refused { refusal } => Located::Refused { refusal },
         Located::At { place } => {
-            let n = task as usize;
-            let own = run.records[n];
             if own.state != 2 {
-                return Stepping::Refused {
+                return Located::Refused {
                     refusal: CallRefusal::Waiting,
                 };
             }
-            if at_end(run, n) {
-                return Stepping::Refused {
+            if at_end(own, size) {
+                return Located::Refused {
                     refusal: CallRefusal::Finished,
                 };
             }
-            let tables = run.tables;
-            let instruction = listing::instruction_at(tables, own.body as usize, own.pc as usize);
+            Located::At { place }
+        }
+    }
+}
+
+// A step: one instruction.
+pub fn step_change(
+    tables: Tables,
+    memory: &mut [u32; 64],
+    modes: &mut [u8; 8192],
+    order: &mut [u8; 128],
+    left: usize,
+    own: Record,
+    task: u32,
+) -> Change
+    ensures { λ r. ⌜ SteppedBy tables (now (memory .entry)) (now (modes .entry)) (now (order .entry)) (now (memory .exit)) (now (modes .exit)) (now (order .exit)) left own task r ⌝ }
+{
+    let body = own.body as usize;
+    let size = listing::row_size(tables.bodies, &tables.sizes, 32, body);
+    let found = step_look(order, left, own, size, task);
+    match found {
+        Located::Refused { refusal } => unchanged(own, left, refusal),
+        Located::At { place } => {
+            let pc = own.pc as usize;
+            let cell = tables.cells[32 * body + pc];
+            let instruction = cell.instruction;
             let code = code_of(instruction);
-            let memory = run.memory;
             let registers = own.registers;
+            let numbers = *memory;
+            let n = task as usize;
             let plan = plan_of(
-                &run.order,
-                &run.modes,
-                memory,
+                order,
+                modes,
+                numbers,
                 registers,
                 n,
                 place,
                 code,
                 instruction,
             );
-            if is_held(plan) {
-                return Stepping::Refused {
-                    refusal: CallRefusal::Blocked,
-                };
-            }
-            Stepping::Taken {
-                plan,
-                place,
-                weight: WEIGHTS[code + 2],
+            let weight = WEIGHTS[code + 2];
+            match plan {
+                // 12
+                StepPlan::Held => unchanged(own, left, CallRefusal::Blocked),
+                StepPlan::Fault { fault } => {
+                    let next = failed(own, fault);
+                    changed(next, left, weight)
+                }
+                StepPlan::Assign { target, value } => {
+                    let next = passed(own, 0);
+                    let next = holding(next, target, value);
+                    changed(next, left, weight)
+                }
+                StepPlan::Pass { over } => {
+                    let next = passed(own, over);
+                    changed(next, left, weight)
+                }
+                StepPlan::Store { location, value } => {
+                    let next = passed(own, 0);
+                    store(memory, location, value);
+                    changed(next, left, weight)
+                }
+                StepPlan::Spawn {
+                    body: sheet,
+                    footprint,
+                } => spawned(
+                    tables,
+                    modes,
+                    order,
+                    left,
+                    own,
+                    n,
+                    place,
+                    sheet,
+                    footprint,
+                    weight,
+                ),
             }
         }
     }
@@ -95,38 +131,70 @@ impl Run {
     pub fn step(self, task: u32) -> Called
         ensures { λ r. ⌜ CalledAs step self task r ⌝ }
     {
-        let stepping = step_plan(self, task);
-        match stepping {
-            Stepping::Refused { refusal } => Called {
+        if 127 < task {
+            return out_of_range(self);
+        }
+        let n = task as usize;
+        let own = self.records[n];
+        let tables = self.tables;
+        let mut memory = self.memory;
+        let mut modes = self.modes;
+        let mut order = self.order;
+        let change = step_change(
+            tables,
+            &mut memory,
+            &mut modes,
+            &mut order,
+            self.left,
+            own,
+            task,
+        );
+        let answer = change.answer;
+        match answer {
+            Answer::Refused { refusal } => Called {
                 answer: Answer::Refused { refusal },
                 run: self,
             },
-            Stepping::Taken {
-                plan,
-                place,
-                weight,
-            } => {
-                let run = carried(self, task as usize, place, plan, weight);
+            Answer::Accepted => {
+                let next = change.own;
+                let made = change.made;
+                let child = change.child;
+                let mut records = self.records;
+                records[n] = next;
+                let calls = std::num::wrapping_add_u32(self.calls, change.calls);
+                let weight = std::num::wrapping_add_u32(self.weight, change.weight);
+                if 127 < child {
+                    let run = Run {
+                        tables,
+                        memory,
+                        records,
+                        modes,
+                        order,
+                        left: change.left,
+                        calls,
+                        weight,
+                    };
+                    return Called {
+                        answer: Answer::Accepted,
+                        run,
+                    };
+                }
+                records[child] = made;
+                let run = Run {
+                    tables,
+                    memory,
+                    records,
+                    modes,
+                    order,
+                    left: change.left,
+                    calls,
+                    weight,
+                };
                 Called {
                     answer: Answer::Accepted,
                     run,
                 }
             }
-        }
-    }
-
-    // The run after a step, whatever is answered.
-    pub fn stepped(self, task: u32) -> Run
-        ensures { λ r. ⌜ CallsMade (call-of step task ∷ []) self r ⌝ }
-    {
-        let stepping = step_plan(self, task);
-        match stepping {
-            Stepping::Refused { refusal: _ } => self,
-            Stepping::Taken {
-                plan,
-                place,
-                weight,
-            } => carried(self, task as usize, place, plan, weight),
         }
     }
 }

@@ -1,22 +1,22 @@
 -- What replay and the sequential run promise: document 01, "Calls", and demand 3.
-use Prim.Native.Nat.{ℕ, _≤_, _<_}
+use Prim.Native.Nat.{ℕ}
 use mathlib.Core.Path.{_≡_}
 use mathlib.Core.List.{List, [], _∷_, _++_}
+use Rattle.tasklist.specs.declared.Tables.{Tables}
 use Rattle.tasklist.specs.Decode.{decode, accepted}
 use Rattle.tasklist.specs.Tables.{list-of}
 use Rattle.semantics.specs.Run.{initial}
 use Rattle.semantics.specs.Run as Semantics
-use Rattle.semantics.specs.Plan.{step}
 use Rattle.semantics.specs.Call.{Call, after-all}
-use Rattle.semantics.specs.Sequential.{made-by, run-whole}
+use Rattle.semantics.specs.Sequential.{run-whole}
 use Rattle.semantics.specs.Operations.{Asked, denies, gives}
 use Rattle.semantics.proofs.Guarantee.{Guarantee}
 use Rattle.runtime.specs.declared.Run.{Run}
 use Rattle.runtime.specs.declared.Opened.{Opened}
 use Rattle.runtime.specs.View.{model, context-of, SoundRun}
-use Rattle.runtime.specs.Calls.{call-of, calls-of-kind, decided, CallsMade}
-use Rattle.runtime.specs.Parts.{Placed}
+use Rattle.runtime.specs.Calls.{calls-of-kind}
 use Rattle.runtime.specs.Asked.{open-number, Unopened}
+use Rattle.sequence.specs.declared.Progress.{Progress}
 
 -- the calls of these kinds on these tasks, as many as the shorter list has
 unfoldable pub calls-of : List ℕ → List ℕ → List Call
@@ -38,20 +38,19 @@ abbrev pub ReplayedAs : List ℕ → List ℕ → List Call → Asked Semantics.
 ReplayedAs bytes memory calls (denies k) r = Unopened k r
 ReplayedAs bytes memory calls (gives fresh) r = Replayed bytes memory calls r
 
--- `r` is the task that a step of task n on the run `from` made, leaving the run `next`; above 127 where it made none
-pub record ChildOf (from next : Run) (n r : ℕ) : Type 0 where
-  pub none : CallsMade (call-of step n ∷ []) from next → SoundRun from → 127 < r → made-by (decided from step n) ≡ []
-  pub one : CallsMade (call-of step n ∷ []) from next → SoundRun from → r ≤ 127 → made-by (decided from step n) ≡ r ∷ []
-
--- task n stands at this place of the order; above 127 where its calls are refused
-pub record PlaceIn (run : Run) (n place : ℕ) : Type 0 where
-  pub none : SoundRun run → 127 < place → made-by (decided run step n) ≡ []
-  pub here : SoundRun run → place ≤ 127 → Placed run n place
-
--- the same, found in the run `next` alone: of every run with so many tasks in the order and task n at this place
-abbrev pub ChildAt : Run → ℕ → ℕ → ℕ → Type 0
-ChildAt next before place r =
-    (from : Run) (n : ℕ) → before ≡ from .left → PlaceIn from n place → ChildOf from next n r
+-- a run put together: its list, the part by value, its memory, its modes and its order
+abbrev pub joined : Tables → Progress → List ℕ → List ℕ → List ℕ → Run
+joined tables p memory modes order =
+    record {
+      tables = tables;
+      memory = memory;
+      records = p .records;
+      modes = modes;
+      order = order;
+      left = p .left;
+      calls = p .calls;
+      weight = p .weight;
+    }
 
 -- "A job is run whole": task n of the run `from`, with so many bodies left
 pub record RunWhole (bodies n : ℕ) (from r : Run) : Type 0 where

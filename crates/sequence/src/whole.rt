@@ -1,88 +1,73 @@
 // The sequential run (document 01: the hand run): task 0 is run whole.
-ghost use Prim.Native.Nat.{_+_, _<_};
-ghost use mathlib.Core.Path.{_≡_};
-ghost use Rattle.semantics.specs.Sequential.{enough};
+ghost use Prim.Native.Nat.{_<_};
 ghost use Rattle.semantics.specs.Operations.{sequential-asked};
-ghost use Rattle.runtime.specs.View.{model, context-of, SoundRun};
 ghost use Rattle.runtime.specs.Asked.{OpenedAs};
-ghost use Rattle.sequence.specs.Replays.{PlaceIn, ChildAt, RunWhole};
-use runtime::Located;
+ghost use Rattle.sequence.specs.Replays.{joined, RunWhole};
+use crate::Progress;
 use runtime::OpenAnswer;
 use runtime::Opened;
 use runtime::Run;
-
-// One more than a task's body has instructions.
-fn most_steps(run: Run, task: usize) -> usize
-    requires { ⌜ task < 128 ⌝ }
-    ensures { λ r. ⌜ (SoundRun run → r ≡ enough (context-of run) (model run) task) ⌝ }
-{
-    let own = run.records[task];
-    let tables = run.tables;
-    let size = listing::body_size(tables, own.body as usize);
-    if 32 < size {
-        return 33;
-    }
-    size + 1
-}
-
-// A task's number, as calls take it.
-fn number_of(task: u8) -> u32
-    ensures { λ r. ⌜ r ≡ task ⌝ }
-{
-    task as u32
-}
-
-// The place of a task in the order; above 127 where it has none.
-fn place_in(run: Run, task: u32) -> usize
-    ensures { λ r. ⌜ PlaceIn run task r ⌝ }
-{
-    let found = runtime::place_of(run, task);
-    match found {
-        Located::Refused { refusal: _ } => 128,
-        Located::At { place } => place,
-    }
-}
-
-// The task that a step made, directly ahead of its own in the order: at the place where its own was, of an order that has
-// other than `before` tasks. Above 127 where it made none.
-fn child_at(run: Run, before: usize, place: usize) -> u32
-    ensures { λ r. ⌜ ChildAt run before place r ⌝ }
-{
-    if run.left == before {
-        return 128;
-    }
-    if 127 < place {
-        return 128;
-    }
-    number_of(run.order[place])
-}
+use tasklist::Tables;
 
 // "A job is run whole thus: its start, its steps until it is at its end, and at each spawn the child is run whole before the
 // next step; last its end call." A child has a higher body: one less is left for it.
-fn run_whole(run: Run, task: u32, bodies: usize) -> Run
+fn run_whole(
+    tables: Tables,
+    progress: Progress,
+    memory: &mut [u32; 64],
+    modes: &mut [u8; 8192],
+    order: &mut [u8; 128],
+    task: usize,
+    bodies: usize,
+) -> Progress
     requires { ⌜ task < 128 ⌝ }
-    ensures { λ r. ⌜ RunWhole bodies task run r ⌝ }
+    ensures { λ r. ⌜ RunWhole bodies task (joined tables progress (now (memory .entry)) (now (modes .entry)) (now (order .entry))) (joined tables r (now (memory .exit)) (now (modes .exit)) (now (order .exit))) ⌝ }
 {
+    let mut p = progress;
     if bodies == 0 {
-        return run;
+        return p;
     }
-    let mut left = most_steps(run, task as usize);
-    let mut r = run.started(task);
-    while 0 < left {
-        if runtime::at_end(r, task as usize) {
-            return r.ended(task);
+    let own = p.records[task];
+    let size = listing::row_size(tables.bodies, &tables.sizes, 32, own.body as usize);
+    let change = runtime::start_change(order, modes, p.left, own, task as u32);
+    let next = change.own;
+    p.records[task] = next;
+    p.left = change.left;
+    p.calls = std::num::wrapping_add_u32(p.calls, change.calls);
+    p.weight = std::num::wrapping_add_u32(p.weight, change.weight);
+    // one more than the body has instructions
+    let mut steps = size + 1;
+    while 0 < steps {
+        let own = p.records[task];
+        let size = listing::row_size(tables.bodies, &tables.sizes, 32, own.body as usize);
+        if runtime::at_end(own, size) {
+            steps = 0;
+            continue;
         }
-        let place = place_in(r, task);
-        let before = r.left;
-        r = r.stepped(task);
-        let child = child_at(r, before, place);
-        left -= 1;
+        let change = runtime::step_change(tables, memory, modes, order, p.left, own, task as u32);
+        let next = change.own;
+        p.records[task] = next;
+        p.left = change.left;
+        p.calls = std::num::wrapping_add_u32(p.calls, change.calls);
+        p.weight = std::num::wrapping_add_u32(p.weight, change.weight);
+        steps -= 1;
+        let child = change.child;
         if 127 < child {
             continue;
         }
-        r = run_whole(r, child, bodies - 1);
+        let made = change.made;
+        p.records[child] = made;
+        p = run_whole(tables, p, memory, modes, order, child, bodies - 1);
     }
-    r.ended(task)
+    let own = p.records[task];
+    let size = listing::row_size(tables.bodies, &tables.sizes, 32, own.body as usize);
+    let change = runtime::end_change(order, p.left, own, size, task as u32);
+    let next = change.own;
+    p.records[task] = next;
+    p.left = change.left;
+    p.calls = std::num::wrapping_add_u32(p.calls, change.calls);
+    p.weight = std::num::wrapping_add_u32(p.weight, change.weight);
+    p
 }
 
 // Runs a job list by hand: as open, then task 0 is run whole.
@@ -97,7 +82,36 @@ pub fn sequential(list: &[u8], memory: &[u32]) -> Opened
     }
     let tables = fresh.tables;
     let bodies = listing::body_count(tables);
-    let run = run_whole(fresh, 0, bodies);
+    let records = fresh.records;
+    let progress = Progress {
+        records,
+        left: fresh.left,
+        calls: fresh.calls,
+        weight: fresh.weight,
+    };
+    let mut numbers = fresh.memory;
+    let mut modes = fresh.modes;
+    let mut order = fresh.order;
+    let done = run_whole(
+        tables,
+        progress,
+        &mut numbers,
+        &mut modes,
+        &mut order,
+        0,
+        bodies,
+    );
+    let records = done.records;
+    let run = Run {
+        tables,
+        memory: numbers,
+        records,
+        modes,
+        order,
+        left: done.left,
+        calls: done.calls,
+        weight: done.weight,
+    };
     Opened {
         answer: OpenAnswer::Accepted,
         run,

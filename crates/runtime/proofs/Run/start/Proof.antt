@@ -1,42 +1,85 @@
--- Refused, or the run after the start.
--- Assumes nothing.
-use mathlib.Core.Path.{sym, subst}
-use Rattle.semantics.specs.declared.Answer.the-variants.{Accepted}
+use mathlib.Core.Path.{refl}
 use Rattle.semantics.specs.Plan.{start}
-use Rattle.runtime.specs.Calls.{CalledAs}
-use Rattle.runtime.specs.Parts.{PlannedAs, start-effect}
-use Rattle.runtime.proofs.CallLaws.{called-refused, start-taken}
+use Rattle.runtime.proofs.ChangeLaws.{call-refused, call-accepted}
 use borrow.Author.Needs.{needs}
 use Rattle.runtime.proofs.Run.start.Statement.{statement}
 use Rattle.runtime.proofs.Run.start.Tie as tie
+use Rattle.runtime.proofs.Run.start.Reads as reads
+use Rattle.runtime.proofs.Run.start.Lts as lts
+use Rattle.runtime.proofs.calls.start_change.Reads as start-change-reads
+use Rattle.std.proofs.num.wrapping_add_u32.Reads as wrapping-add-u32-reads
 
-start-plan-requires : tie.Need-start-plan-requires
-start-plan-requires c κs = search needs
+out-of-range-requires : tie.Need-out-of-range-requires
+out-of-range-requires c κs = search needs
 
-enum-known-plan : tie.Need-enum-known-plan
-enum-known-plan c = search needs
+returns : tie.Need-returns
+returns c = c .out-of-range .ensures start (c .before .before .args .task) (c .before .if1 .taken)
 
+-- src/calls.rt:159:19
+mul-own : tie.Need-mul-own
+mul-own c = search needs
+
+-- src/calls.rt:159:19
+element-copy-out-own : tie.Need-element-copy-out-own
+element-copy-out-own c = search needs
+
+-- src/calls.rt:160:13
+start-change-requires : tie.Need-start-change-requires
+start-change-requires c κs = search needs
+
+-- src/calls.rt:163:31
+enum-known-answer : tie.Need-enum-known-answer
+enum-known-answer c = search needs
+
+-- src/calls.rt:168:21
 enum-told : tie.Need-enum-told
 enum-told c = search needs
 
-started-requires : tie.Need-started-requires
-started-requires c κs =
-    subst (PlannedAs start (start-effect (c .before .before .before .args .self) (c .before .before .before .args .task)) (c .before .before .before .args .self) (c .before .before .before .args .task)) (c .enum-told .given .1) (c .before .before .start-plan .ensures) .0
+-- src/calls.rt:170:17
+mul-next : tie.Need-mul-next
+mul-next c = search needs
 
-returns : tie.Need-returns
-returns c =
-    let run = c .before .before .before .before .args .self in
-    let n = c .before .before .before .before .args .task in
-    called-refused start run n (c .before .plan .given .0 .0) (subst (PlannedAs start (start-effect run n) run n) (c .before .plan .given .1) (c .before .before .before .start-plan .ensures))
+-- src/calls.rt:170:17
+element-set-from-next : tie.Need-element-set-from-next
+element-set-from-next c = search needs
 
+-- src/calls.rt:171:29
+wrapping-add-u32-requires : tie.Need-wrapping-add-u32-requires
+wrapping-add-u32-requires c κs = search needs
+
+-- src/calls.rt:172:30
+wrapping-add-u32-requires-2 : tie.Need-wrapping-add-u32-requires-2
+wrapping-add-u32-requires-2 c κs = search needs
+
+-- src/calls.rt:147:5
 returns-2 : tie.Need-returns-2
 returns-2 c =
-    let run = c .before .before .before .before .args .self in
-    let n = c .before .before .before .before .args .task in
-    let free = subst (PlannedAs start (start-effect run n) run n) (c .before .enum-told .given .1) (c .before .before .before .start-plan .ensures) in
-    subst (λ x. CalledAs start run n (record { answer = Accepted; run = x })) (sym (c .started .ensures)) (start-taken run n (free .0) (λ s. free .1 s .1))
+    let a = c .before .before .before .before .before .before .before .before .before .args in
+    let done = c .before .before .before .start-change in
+    call-refused start (a .t1) (a .task) (done .result) (a .t1) (done .ensures (a .t1) refl) (c .before .answer .given .0 .0) (c .before .answer .given .1)
+
+-- src/calls.rt:147:5
+returns-3 : tie.Need-returns-3
+returns-3 c =
+    let a = c .before .before .before .before .before .before .before .before .before .before .before .args in
+    let done = c .before .before .before .before .before .start-change in
+    call-accepted start (a .t1) (a .task) (done .result) (a .t1) (done .ensures (a .t1) refl) (c .before .before .before .enum-told .given .1) (c .before .wrapping-add-u32 .result)
+    (c .wrapping-add-u322 .result) (c .before .wrapping-add-u32 .ensures) (c .wrapping-add-u322 .ensures)
 
 pub start-spec : {M : Type 1} → statement M
 start-spec =
     tie.close
-    (tie.spec start-plan-requires enum-known-plan enum-told started-requires returns returns-2)
+    (tie.spec
+    out-of-range-requires
+    returns
+    mul-own
+    element-copy-out-own
+    start-change-requires
+    enum-known-answer
+    enum-told
+    mul-next
+    element-set-from-next
+    wrapping-add-u32-requires
+    wrapping-add-u32-requires-2
+    returns-2
+    returns-3)

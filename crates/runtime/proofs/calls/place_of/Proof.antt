@@ -1,7 +1,9 @@
 -- The place that is found is where the model looks.
 -- Assumes nothing.
 use native.Mathlib.Omega.{arith}
+use denote.Ref.{now}
 use Rattle.semantics.specs.Answers.{refusal-number}
+use Rattle.runtime.specs.Changes.{ordered}
 use Rattle.runtime.proofs.CallLaws.{no-number, absent-refused, found-placed}
 use borrow.Author.Needs.{needs}
 use Rattle.runtime.proofs.calls.place_of.Statement.{statement}
@@ -9,7 +11,8 @@ use Rattle.runtime.proofs.calls.place_of.Tie as tie
 
 returns : tie.Need-returns
 returns c =
-    λ s a. unfold refusal-number in no-number (c .before .args .t1) (c .before .args .task) a (c .if1 .taken)
+    let a = c .before .args in
+    λ run s n. unfold refusal-number in no-number (ordered (now (a .order)) (a .left) run) (a .task) n (c .if1 .taken)
 
 cast-position : tie.Need-cast-position
 cast-position c = search needs
@@ -25,11 +28,18 @@ enum-known-found c = search needs
 
 returns-2 : tie.Need-returns-2
 returns-2 c =
-    λ s a. unfold refusal-number in absent-refused (c .before .before .before .before .before .before .args .t1) (c .before .before .before .before .before .before .args .task) (omega arith) (c .before .before .position .result) (c .before .before .position .ensures) (c .enum-told .given .1) s a
+    let a = c .before .before .before .before .args in
+    let found = c .before .before .position in
+    λ run s n.
+    unfold refusal-number in
+    absent-refused (ordered (now (a .order)) (a .left) run) (a .task) (omega arith) (found .result) (found .ensures) (c .enum-told .given .1) s n
 
 returns-3 : tie.Need-returns-3
 returns-3 c =
-    (omega arith, found-placed (c .before .before .before .before .before .before .before .args .t1) (c .before .before .before .before .before .before .before .args .task) (omega arith) (c .before .before .before .position .result) (c .before .before .before .position .ensures) (c .before .found .given .0 .0) (c .before .found .given .1))
+    let a = c .before .before .before .before .before .args in
+    let found = c .before .before .before .position in
+    λ run.
+    (omega arith, found-placed (ordered (now (a .order)) (a .left) run) (a .task) (omega arith) (found .result) (found .ensures) (c .before .found .given .0 .0) (c .before .found .given .1))
 
 pub place-of-spec : {M : Type 1} → statement M
 place-of-spec =

@@ -1,29 +1,27 @@
--- Denied, or a task made.
+-- Denied, no room, or a task made.
 -- Assumes nothing.
-use mathlib.Core.Path.{_≡_, sym, ap, subst, _∙_}
-use Rattle.runtime.proofs.CarryLaws.{denied-carried, made-carried}
-use Rattle.runtime.specs.Steps.{passed, failed, onward, BornAs, Carries}
-use Rattle.runtime.specs.Parts.{record-of}
-use Rattle.runtime.specs.declared.StepPlan.the-variants.{Spawn}
+use mathlib.Core.Path.{ap, _∙_}
+use Prim.Native.Nat.{ℕ, _+_}
+use Rattle.semantics.specs.declared.Answer.the-variants.{Accepted}
+use native.Mathlib.Omega.{arith}
+use Rattle.tasklist.proofs.PlaceLaws.{length-lowered}
+use denote.Ref.{now}
+use Rattle.runtime.specs.Changes.{with-parts, counted}
+use Rattle.runtime.proofs.SpawnLaws.{spawn-denied, spawn-full, spawn-made}
 use borrow.Author.Needs.{needs}
 use Rattle.runtime.proofs.carry.spawned.Statement.{statement}
 use Rattle.runtime.proofs.carry.spawned.Tie as tie
 use Rattle.runtime.proofs.carry.spawned.Reads as reads
 use Rattle.runtime.proofs.carry.spawned.Lts as lts
-use Rattle.runtime.proofs.carry.born.Reads as born-reads
+use Rattle.runtime.proofs.carry.changed.Reads as changed-reads
 use Rattle.runtime.proofs.carry.failed.Reads as failed-reads
 use Rattle.runtime.proofs.carry.newborn.Reads as newborn-reads
-use Rattle.runtime.proofs.carry.onward.Reads as onward-reads
 use Rattle.runtime.proofs.carry.passed.Reads as passed-reads
 use Rattle.tables.proofs.granted.Reads as granted-reads
+use Rattle.tables.proofs.put_row.Reads as put-row-reads
 use Rattle.tables.proofs.row_of.Reads as row-of-reads
 use Rattle.tables.proofs.child_number.Reads as child-number-reads
-
-mul-own : tie.Need-mul-own
-mul-own c = search needs
-
-element-copy-out-own : tie.Need-element-copy-out-own
-element-copy-out-own c = search needs
+use Rattle.tables.proofs.insert.Reads as insert-reads
 
 row-of-requires : tie.Need-row-of-requires
 row-of-requires c κs = search needs
@@ -37,8 +35,8 @@ enum-known-grant c = search needs
 failed-requires : tie.Need-failed-requires
 failed-requires c κs = search needs
 
-onward-requires : tie.Need-onward-requires
-onward-requires c κs = search needs
+changed-requires : tie.Need-changed-requires
+changed-requires c κs = search needs
 
 enum-told : tie.Need-enum-told
 enum-told c = search needs
@@ -55,54 +53,119 @@ cast-child-number-2 c = search needs
 child-number-requires : tie.Need-child-number-requires
 child-number-requires c κs = search needs
 
-newborn-requires : tie.Need-newborn-requires
-newborn-requires c κs = search needs
-
-onward-requires-2 : tie.Need-onward-requires-2
-onward-requires-2 c κs =
-    c .before .before .before .before .before .before .before .before .before .before .before .before .before .before .before .pre
-
-born-requires : tie.Need-born-requires
-born-requires c κs = search needs
+changed-requires-2 : tie.Need-changed-requires-2
+changed-requires-2 c κs = search needs
 
 returns : tie.Need-returns
 returns c =
-    let run = c .before .before .before .before .before .before .before .before .before .before .before .before .args .t1 in
-    let n = c .before .before .before .before .before .before .before .before .before .before .before .before .args .task in
-    let same : c .onward .result ≡ onward n (failed (c .before .before .before .grant .given .0 .0) (record-of run n)) (c .before .before .before .before .before .before .before .before .before .before .before .before .args .weight) run =
-    c .onward .ensures ∙ ap (λ t. onward n t (c .before .before .before .before .before .before .before .before .before .before .before .before .args .weight) run) (c .before .failed .ensures) in
-    subst (Carries n (c .before .before .before .before .before .before .before .before .before .before .before .before .args .place) (c .before .before .before .before .before .before .before .before .before .before .before .before .args .weight) (Spawn (c .before .before .before .before .before .before .before .before .before .before .before .before .args .body) (c .before .before .before .before .before .before .before .before .before .before .before .before .args .footprint)) run) (sym same)
-    (denied-carried (c .before .before .before .before .before .before .before .before .before .before .before .before .args .t1) (c .before .before .before .before .before .before .before .before .before .before .before .before .args .task) (c .before .before .before .before .before .before .before .before .before .before .before .before .args .place) (c .before .before .before .before .before .before .before .before .before .before .before .before .args .weight) (c .before .before .before .before .before .before .before .before .before .before .before .before .pre) (c .before .before .before .before .before .before .before .before .before .before .before .before .args .body) (c .before .before .before .before .before .before .before .before .before .before .before .before .args .footprint) (c .before .before .before .before .before .granted .result) (c .before .before .before .before .before .before .before .before .row-of .result) (c .before .before .before .before .before .before .before .before .row-of .ensures) (c .before .before .before .before .before .granted .ensures) (c .before .before .before .grant .given .0 .0) (c .before .before .before .grant .given .1))
+    let a = c .before .before .before .before .before .before .before .before .before .before .before .before .args in
+    let granted = c .before .before .before .before .before .before .before .before .granted in
+    let row = c .before .before .before .before .before .before .before .before .before .before .row-of in
+    let number = c .before .before .child-number in
+    let changed = c .before .changed2 in
+    λ run same.
+    spawn-full (with-parts (a .tables) (run .memory) (now (a .modes)) (now (a .order)) (a .left) run)
+    (a .task) (a .place) (a .weight) (a .body) (a .footprint) (c .before .before .before .before .before .before .before .before .before .before .before .before .pre) (a .own) same (granted .result)
+    (row .result) (row .ensures) (granted .ensures) (c .before .before .before .before .before .before .enum-told .given .1)
+    (number .result) (number .ensures)
+    (λ k l. let z : ⊥ = omega (arith, k, l, c .if1 .taken) in z) (c .before .before .before .before .before .passed .result) (changed .result) (changed .ensures)
 
 returns-2 : tie.Need-returns-2
 returns-2 c =
-    let run = c .before .before .before .before .before .before .before .before .before .before .before .before .before .before .before .before .before .args .t1 in
-    let n = c .before .before .before .before .before .before .before .before .before .before .before .before .before .before .before .before .before .args .task in
-    let w = c .before .before .before .before .before .before .before .before .before .before .before .before .before .before .before .before .before .args .weight in
-    let same : c .before .onward2 .result ≡ onward n (passed 0 (record-of run n)) w run =
-    c .before .onward2 .ensures ∙ ap (λ t. onward n t w run) (c .before .before .before .before .before .before .before .passed .ensures .0) in
-    made-carried (c .before .before .before .before .before .before .before .before .before .before .before .before .before .before .before .before .before .args .t1) (c .before .before .before .before .before .before .before .before .before .before .before .before .before .before .before .before .before .args .task) (c .before .before .before .before .before .before .before .before .before .before .before .before .before .before .before .before .before .args .place) (c .before .before .before .before .before .before .before .before .before .before .before .before .before .before .before .before .before .args .weight) (c .before .before .before .before .before .before .before .before .before .before .before .before .before .before .before .before .before .pre) (c .before .before .before .before .before .before .before .before .before .before .before .before .before .before .before .before .before .args .body) (c .before .before .before .before .before .before .before .before .before .before .before .before .before .before .before .before .before .args .footprint) (c .before .before .before .before .before .before .before .before .before .before .granted .result) (c .before .before .before .before .before .before .before .before .before .before .before .before .before .row-of .result) (c .before .before .before .before .before .before .before .before .before .before .before .before .before .row-of .ensures) (c .before .before .before .before .before .before .before .before .before .before .granted .ensures) (c .before .before .before .before .before .before .before .before .enum-told .given .1) (c .before .before .before .before .child-number .result) (c .before .before .before .before .child-number .ensures) (c .born .result)
-    (subst (λ t. BornAs (c .before .before .before .before .before .before .before .before .before .before .before .before .before .before .before .before .before .args .place) (c .before .before .before .before .child-number .result) t (c .before .before .before .before .before .before .before .before .before .before .granted .result .modes) (onward n (passed 0 (record-of run n)) w run) (c .born .result)) (c .before .before .before .newborn .ensures)
-    (subst (λ x. BornAs (c .before .before .before .before .before .before .before .before .before .before .before .before .before .before .before .before .before .args .place) (c .before .before .before .before .child-number .result) (c .before .before .before .newborn .result) (c .before .before .before .before .before .before .before .before .before .before .granted .result .modes) x (c .born .result)) same (c .born .ensures)))
+    let a = c .before .before .before .before .before .before .before .before .before .before .before .before .before .args in
+    let granted = c .before .before .before .before .before .before .before .before .before .granted in
+    let row = c .before .before .before .before .before .before .before .before .before .before .before .row-of in
+    let number = c .before .before .before .child-number in
+    let changed = c .before .before .changed2 in
+    λ run same.
+    spawn-full (with-parts (a .tables) (run .memory) (now (a .modes)) (now (a .order)) (a .left) run)
+    (a .task) (a .place) (a .weight) (a .body) (a .footprint) (c .before .before .before .before .before .before .before .before .before .before .before .before .before .pre) (a .own) same (granted .result)
+    (row .result) (row .ensures) (granted .ensures) (c .before .before .before .before .before .before .before .enum-told .given .1)
+    (number .result) (number .ensures)
+    (λ k l. let z : ⊥ = omega (arith, k, l, c .if2 .taken) in z) (c .before .before .before .before .before .before .passed .result) (changed .result) (changed .ensures)
+
+put-row-requires : tie.Need-put-row-requires
+put-row-requires c κs = search needs
+
+cast-insert : tie.Need-cast-insert
+cast-insert c = search needs
+
+insert-requires : tie.Need-insert-requires
+insert-requires c κs = search needs
+
+newborn-requires : tie.Need-newborn-requires
+newborn-requires c κs = search needs
+
+add-t26 : tie.Need-add-t26
+add-t26 c = search needs
+
+returns-3 : tie.Need-returns-3
+returns-3 c =
+    let a = c .before .before .before .before .before .before .before .before .before .args in
+    let granted = c .before .before .before .before .before .granted in
+    let row = c .before .before .before .before .before .before .before .row-of in
+    let fault = c .before .before .before .grant .given .0 .0 in
+    λ run same.
+    spawn-denied (with-parts (a .tables) (run .memory) (now (a .modes)) (now (a .order)) (a .left) run)
+    (a .task) (a .place) (a .weight) (a .body) (a .footprint) (c .before .before .before .before .before .before .before .before .before .pre) (a .own) same (granted .result)
+    (row .result) (row .ensures) (granted .ensures) fault (c .before .before .before .grant .given .1)
+    (c .changed .result) (c .changed .ensures ∙ ap (λ t. counted t (a .left) (a .weight)) (c .before .failed .ensures))
+
+returns-4 : tie.Need-returns-4
+returns-4 c =
+    let a = c .before .before .before .before .before .before .before .before .before .before .before .before .before .before .before .before .before .before .before .before .args in
+    let granted = c .before .before .before .before .before .before .before .before .before .before .before .before .before .before .before .before .granted in
+    let row = c .before .before .before .before .before .before .before .before .before .before .before .before .before .before .before .before .before .before .row-of in
+    let number = c .before .before .before .before .before .before .before .before .before .before .child-number in
+    let put-row = c .before .before .before .before .put-row in
+    let insert = c .before .before .insert in
+    let charged = c .before .before .before .before .before .before .before .before .before .changed2 .ensures ∙ ap (λ t. counted t (a .left) (a .weight)) (c .before .before .before .before .before .before .before .before .before .before .before .before .before .passed .ensures .0) in
+    λ run same.
+    spawn-made (with-parts (a .tables) (run .memory) (now (a .modes)) (now (a .order)) (a .left) run)
+    (a .task) (a .place) (a .weight) (a .body) (a .footprint) (c .before .before .before .before .before .before .before .before .before .before .before .before .before .before .before .before .before .before .before .before .pre) (a .own) same (granted .result)
+    (row .result) (row .ensures) (granted .ensures) (c .before .before .before .before .before .before .before .before .before .before .before .before .before .before .enum-told .given .1)
+    (number .result) (number .ensures) (omega (arith, c .before .before .before .before .before .before .before .before .if1 .left)) (put-row .last .0) (insert .last .0)
+    (length-lowered (λ (v : ℕ). v) (granted .result .modes) 64 (granted .ok .1 .1 .1 .0 .1 .0 .1)) (put-row .ensures .0) (insert .ensures .1) (insert .ensures .0)
+    (record {
+      answer = Accepted;
+      own = c .before .before .before .before .before .before .before .before .before .changed2 .result .own;
+      left = a .left + 1;
+      calls = 1;
+      weight = a .weight;
+      child = number .result;
+      made = c .newborn .result;
+    })
+    (λ i. record {
+      answer = Accepted;
+      own = charged i .own;
+      left = a .left + 1;
+      calls = 1;
+      weight = a .weight;
+      child = number .result;
+      made = c .newborn .ensures i;
+    })
 
 pub spawned-spec : {M : Type 1} → statement M
 spawned-spec =
     tie.close
     (tie.spec
-    mul-own
-    element-copy-out-own
     row-of-requires
     granted-requires
     enum-known-grant
     failed-requires
-    onward-requires
+    changed-requires
     enum-told
     passed-requires
     cast-child-number
     cast-child-number-2
     child-number-requires
-    newborn-requires
-    onward-requires-2
-    born-requires
+    changed-requires-2
     returns
-    returns-2)
+    returns-2
+    put-row-requires
+    cast-insert
+    insert-requires
+    newborn-requires
+    add-t26
+    returns-3
+    returns-4)

@@ -1,508 +1,1095 @@
-use Prim.Native.Nat.{ℕ, _-_, _<_}
-use mathlib.Core.Path.{refl, subst}
+use Prim.Native.Nat.{ℕ, _+_, _-_, _≤_, _<_}
+use mathlib.Core.Path.{_≡_, refl, subst, _∙_}
+use denote.Ref.{now}
 use native.Mathlib.Omega.{arith}
 use native.Mathlib.Nat.{pos-of-ne-zero}
-use Rattle.sequence.proofs.SequentialLaws.{StepsLeft, steps-all, turn-none, turn-child, whole-none, whole-ended, whole-spent}
+use Rattle.tasklist.proofs.Cell.{the-type as the-cell}
+use Rattle.tasklist.proofs.PlaceLaws.{length-lowered}
+use Rattle.listing.proofs.AccessLaws.{body-size-is}
+use Rattle.semantics.specs.Run.{task-of}
+use Rattle.semantics.specs.Plan.{at-end}
+use Rattle.runtime.specs.View.{model, context-of, SoundRun}
+use Rattle.runtime.specs.Parts.{record-of}
+use Rattle.runtime.proofs.ChangeLaws.{ends}
+use Rattle.sequence.specs.Replays.{joined}
+use Rattle.sequence.proofs.SequentialLaws.{onward, with-record, start-joined, step-joined, spawn-joined, makes-joined, end-joined, enough-steps, StepsLeft, steps-all, turn-ended, turn-none, turn-child, whole-none, whole-spent}
+use borrow.Author.Needs.{needs}
 use borrow.Fn.Kinds.{In}
 use borrow.Fn.PlainCycle.{Measures, is, falls, and}
 use Rattle.sequence.proofs.whole.run_whole.Reads as run-whole
 use Rattle.sequence.proofs.whole.run_whole.Kinds as run-whole-kinds
 use Rattle.sequence.proofs.whole.+run_whole.Lts-run_whole as run-whole-lts
+use Rattle.listing.proofs.row_size.Reads as row-size-reads
 use Rattle.runtime.proofs.at_end.Reads as at-end-reads
-use Rattle.runtime.proofs.Run.started.Reads as started-reads
-use Rattle.sequence.proofs.whole.child_at.Reads as child-at-reads
-use Rattle.runtime.proofs.Run.ended.Reads as ended-reads
-use Rattle.sequence.proofs.whole.most_steps.Reads as most-steps-reads
-use Rattle.sequence.proofs.whole.place_in.Reads as place-in-reads
-use Rattle.runtime.proofs.Run.stepped.Reads as stepped-reads
+use Rattle.runtime.proofs.end_change.Reads as end-change-reads
+use Rattle.runtime.proofs.start_change.Reads as start-change-reads
+use Rattle.runtime.proofs.step_change.Reads as step-change-reads
+use Rattle.std.proofs.num.wrapping_add_u32.Reads as wrapping-add-u32-reads
 use Rattle.sequence.proofs.whole.+run_whole.{statement}
 use Rattle.sequence.proofs.whole.+run_whole.Tie.{close}
 
-abbrev μ-run-whole : Measures 0 run-whole-kinds.ps ℕ
-μ-run-whole κs a = a .1 .1 .0
+abbrev μ-run-whole : Measures 3 run-whole-kinds.ps ℕ
+μ-run-whole κs a = a .1 .1 .1 .1 .1 .1 .0
 
-abbrev run-whole-at : ℕ → In 0 run-whole-kinds.ps
-run-whole-at t = and 0 run-whole-kinds.ps (is 0 run-whole-kinds.ps μ-run-whole t) run-whole.Pre
+abbrev run-whole-at : ℕ → In 3 run-whole-kinds.ps
+run-whole-at t = and 3 run-whole-kinds.ps (is 3 run-whole-kinds.ps μ-run-whole t) run-whole.Pre
 
-abbrev run-whole-below : ℕ → In 0 run-whole-kinds.ps
+abbrev run-whole-below : ℕ → In 3 run-whole-kinds.ps
 run-whole-below t =
-    and 0 run-whole-kinds.ps (falls 0 run-whole-kinds.ps _<_ μ-run-whole t) run-whole.Pre
+    and 3 run-whole-kinds.ps (falls 3 run-whole-kinds.ps _<_ μ-run-whole t) run-whole.Pre
 
 abbrev run-whole-Inv-loop : run-whole-lts.InvT-loop
-run-whole-Inv-loop task bodies left₀ r₀ left r = StepsLeft bodies task left₀ r₀ left r
+run-whole-Inv-loop memory₀ modes₀ order₀ task bodies tables p₀ size steps₀ memory modes order p steps =
+    StepsLeft bodies task steps₀ (joined tables p₀ memory₀ modes₀ order₀) steps (joined tables p memory modes order)
 
 abbrev run-whole-μ-loop : run-whole-lts.MeasureT-loop
-run-whole-μ-loop task bodies left₀ r₀ left r = left
+run-whole-μ-loop memory₀ modes₀ order₀ task bodies tables p₀ size steps₀ memory modes order p steps = steps
 
--- src/whole.rt:97:9
+-- src/whole.rt:28:9
 run-whole-returns : (t : ℕ) → run-whole-lts.Need-returns (
-  most-steps-reads.Asked,
-  most-steps-reads.Learnt,
-  started-reads.Asked,
-  started-reads.Learnt,
+  row-size-reads.Asked,
+  row-size-reads.Learnt,
+  start-change-reads.Asked,
+  start-change-reads.Learnt,
+  wrapping-add-u32-reads.Asked,
+  wrapping-add-u32-reads.Learnt,
   at-end-reads.Asked,
   at-end-reads.Learnt,
-  ended-reads.Asked,
-  ended-reads.Learnt,
-  place-in-reads.Asked,
-  place-in-reads.Learnt,
-  stepped-reads.Asked,
-  stepped-reads.Learnt,
-  child-at-reads.Asked,
-  child-at-reads.Learnt,
+  step-change-reads.Asked,
+  step-change-reads.Learnt,
   run-whole-below t,
   run-whole.Post,
+  end-change-reads.Asked,
+  end-change-reads.Learnt,
 ) (run-whole-at t) run-whole.Post run-whole-Inv-loop run-whole-μ-loop
 run-whole-returns t c =
     let a = c .before .args in
-    whole-none (a .bodies) (a .task) (a .run) (c .if1 .taken)
+    whole-none (a .bodies) (a .task) (joined (a .t1) (a .progress) (now (a .memory)) (now (a .modes)) (now (a .order))) (c .if1 .taken)
 
--- src/whole.rt:99:9
-run-whole-most-steps-requires : (t : ℕ) → run-whole-lts.Need-most-steps-requires (
-  most-steps-reads.Asked,
-  most-steps-reads.Learnt,
-  started-reads.Asked,
-  started-reads.Learnt,
+-- src/whole.rt:30:15
+run-whole-mul-own : (t : ℕ) → run-whole-lts.Need-mul-own (
+  row-size-reads.Asked,
+  row-size-reads.Learnt,
+  start-change-reads.Asked,
+  start-change-reads.Learnt,
+  wrapping-add-u32-reads.Asked,
+  wrapping-add-u32-reads.Learnt,
   at-end-reads.Asked,
   at-end-reads.Learnt,
-  ended-reads.Asked,
-  ended-reads.Learnt,
-  place-in-reads.Asked,
-  place-in-reads.Learnt,
-  stepped-reads.Asked,
-  stepped-reads.Learnt,
-  child-at-reads.Asked,
-  child-at-reads.Learnt,
+  step-change-reads.Asked,
+  step-change-reads.Learnt,
   run-whole-below t,
   run-whole.Post,
+  end-change-reads.Asked,
+  end-change-reads.Learnt,
 ) (run-whole-at t) run-whole.Post run-whole-Inv-loop run-whole-μ-loop
-run-whole-most-steps-requires t c κs = c .before .pre .1
+run-whole-mul-own t c = search needs
 
--- src/whole.rt:100:9
-run-whole-started-requires : (t : ℕ) → run-whole-lts.Need-started-requires (
-  most-steps-reads.Asked,
-  most-steps-reads.Learnt,
-  started-reads.Asked,
-  started-reads.Learnt,
+-- src/whole.rt:30:15
+run-whole-element-copy-out-own : (t : ℕ) → run-whole-lts.Need-element-copy-out-own (
+  row-size-reads.Asked,
+  row-size-reads.Learnt,
+  start-change-reads.Asked,
+  start-change-reads.Learnt,
+  wrapping-add-u32-reads.Asked,
+  wrapping-add-u32-reads.Learnt,
   at-end-reads.Asked,
   at-end-reads.Learnt,
-  ended-reads.Asked,
-  ended-reads.Learnt,
-  place-in-reads.Asked,
-  place-in-reads.Learnt,
-  stepped-reads.Asked,
-  stepped-reads.Learnt,
-  child-at-reads.Asked,
-  child-at-reads.Learnt,
+  step-change-reads.Asked,
+  step-change-reads.Learnt,
   run-whole-below t,
   run-whole.Post,
+  end-change-reads.Asked,
+  end-change-reads.Learnt,
 ) (run-whole-at t) run-whole.Post run-whole-Inv-loop run-whole-μ-loop
-run-whole-started-requires t c κs = tt
+run-whole-element-copy-out-own t c = search needs
 
--- src/whole.rt:101:5
+-- src/whole.rt:31:68
+run-whole-cast-row-size : (t : ℕ) → run-whole-lts.Need-cast-row-size (
+  row-size-reads.Asked,
+  row-size-reads.Learnt,
+  start-change-reads.Asked,
+  start-change-reads.Learnt,
+  wrapping-add-u32-reads.Asked,
+  wrapping-add-u32-reads.Learnt,
+  at-end-reads.Asked,
+  at-end-reads.Learnt,
+  step-change-reads.Asked,
+  step-change-reads.Learnt,
+  run-whole-below t,
+  run-whole.Post,
+  end-change-reads.Asked,
+  end-change-reads.Learnt,
+) (run-whole-at t) run-whole.Post run-whole-Inv-loop run-whole-μ-loop
+run-whole-cast-row-size t c = search needs
+
+-- src/whole.rt:31:9
+run-whole-row-size-requires : (t : ℕ) → run-whole-lts.Need-row-size-requires (
+  row-size-reads.Asked,
+  row-size-reads.Learnt,
+  start-change-reads.Asked,
+  start-change-reads.Learnt,
+  wrapping-add-u32-reads.Asked,
+  wrapping-add-u32-reads.Learnt,
+  at-end-reads.Asked,
+  at-end-reads.Learnt,
+  step-change-reads.Asked,
+  step-change-reads.Learnt,
+  run-whole-below t,
+  run-whole.Post,
+  end-change-reads.Asked,
+  end-change-reads.Learnt,
+) (run-whole-at t) run-whole.Post run-whole-Inv-loop run-whole-μ-loop
+run-whole-row-size-requires t c κs = search needs
+
+-- src/whole.rt:32:67
+run-whole-cast-start-change : (t : ℕ) → run-whole-lts.Need-cast-start-change (
+  row-size-reads.Asked,
+  row-size-reads.Learnt,
+  start-change-reads.Asked,
+  start-change-reads.Learnt,
+  wrapping-add-u32-reads.Asked,
+  wrapping-add-u32-reads.Learnt,
+  at-end-reads.Asked,
+  at-end-reads.Learnt,
+  step-change-reads.Asked,
+  step-change-reads.Learnt,
+  run-whole-below t,
+  run-whole.Post,
+  end-change-reads.Asked,
+  end-change-reads.Learnt,
+) (run-whole-at t) run-whole.Post run-whole-Inv-loop run-whole-μ-loop
+run-whole-cast-start-change t c = search needs
+
+-- src/whole.rt:32:9
+run-whole-start-change-requires : (t : ℕ) → run-whole-lts.Need-start-change-requires (
+  row-size-reads.Asked,
+  row-size-reads.Learnt,
+  start-change-reads.Asked,
+  start-change-reads.Learnt,
+  wrapping-add-u32-reads.Asked,
+  wrapping-add-u32-reads.Learnt,
+  at-end-reads.Asked,
+  at-end-reads.Learnt,
+  step-change-reads.Asked,
+  step-change-reads.Learnt,
+  run-whole-below t,
+  run-whole.Post,
+  end-change-reads.Asked,
+  end-change-reads.Learnt,
+) (run-whole-at t) run-whole.Post run-whole-Inv-loop run-whole-μ-loop
+run-whole-start-change-requires t c κs = search needs
+
+-- src/whole.rt:34:5
+run-whole-mul-next : (t : ℕ) → run-whole-lts.Need-mul-next (
+  row-size-reads.Asked,
+  row-size-reads.Learnt,
+  start-change-reads.Asked,
+  start-change-reads.Learnt,
+  wrapping-add-u32-reads.Asked,
+  wrapping-add-u32-reads.Learnt,
+  at-end-reads.Asked,
+  at-end-reads.Learnt,
+  step-change-reads.Asked,
+  step-change-reads.Learnt,
+  run-whole-below t,
+  run-whole.Post,
+  end-change-reads.Asked,
+  end-change-reads.Learnt,
+) (run-whole-at t) run-whole.Post run-whole-Inv-loop run-whole-μ-loop
+run-whole-mul-next t c = search needs
+
+-- src/whole.rt:34:5
+run-whole-element-set-from-next : (t : ℕ) → run-whole-lts.Need-element-set-from-next (
+  row-size-reads.Asked,
+  row-size-reads.Learnt,
+  start-change-reads.Asked,
+  start-change-reads.Learnt,
+  wrapping-add-u32-reads.Asked,
+  wrapping-add-u32-reads.Learnt,
+  at-end-reads.Asked,
+  at-end-reads.Learnt,
+  step-change-reads.Asked,
+  step-change-reads.Learnt,
+  run-whole-below t,
+  run-whole.Post,
+  end-change-reads.Asked,
+  end-change-reads.Learnt,
+) (run-whole-at t) run-whole.Post run-whole-Inv-loop run-whole-μ-loop
+run-whole-element-set-from-next t c = search needs
+
+-- src/whole.rt:36:15
+run-whole-wrapping-add-u32-requires : (t : ℕ) → run-whole-lts.Need-wrapping-add-u32-requires (
+  row-size-reads.Asked,
+  row-size-reads.Learnt,
+  start-change-reads.Asked,
+  start-change-reads.Learnt,
+  wrapping-add-u32-reads.Asked,
+  wrapping-add-u32-reads.Learnt,
+  at-end-reads.Asked,
+  at-end-reads.Learnt,
+  step-change-reads.Asked,
+  step-change-reads.Learnt,
+  run-whole-below t,
+  run-whole.Post,
+  end-change-reads.Asked,
+  end-change-reads.Learnt,
+) (run-whole-at t) run-whole.Post run-whole-Inv-loop run-whole-μ-loop
+run-whole-wrapping-add-u32-requires t c κs = search needs
+
+-- src/whole.rt:37:16
+run-whole-wrapping-add-u32-requires-2 : (t : ℕ) → run-whole-lts.Need-wrapping-add-u32-requires-2 (
+  row-size-reads.Asked,
+  row-size-reads.Learnt,
+  start-change-reads.Asked,
+  start-change-reads.Learnt,
+  wrapping-add-u32-reads.Asked,
+  wrapping-add-u32-reads.Learnt,
+  at-end-reads.Asked,
+  at-end-reads.Learnt,
+  step-change-reads.Asked,
+  step-change-reads.Learnt,
+  run-whole-below t,
+  run-whole.Post,
+  end-change-reads.Asked,
+  end-change-reads.Learnt,
+) (run-whole-at t) run-whole.Post run-whole-Inv-loop run-whole-μ-loop
+run-whole-wrapping-add-u32-requires-2 t c κs = search needs
+
+-- src/whole.rt:39:21
+run-whole-add-steps : (t : ℕ) → run-whole-lts.Need-add-steps (
+  row-size-reads.Asked,
+  row-size-reads.Learnt,
+  start-change-reads.Asked,
+  start-change-reads.Learnt,
+  wrapping-add-u32-reads.Asked,
+  wrapping-add-u32-reads.Learnt,
+  at-end-reads.Asked,
+  at-end-reads.Learnt,
+  step-change-reads.Asked,
+  step-change-reads.Learnt,
+  run-whole-below t,
+  run-whole.Post,
+  end-change-reads.Asked,
+  end-change-reads.Learnt,
+) (run-whole-at t) run-whole.Post run-whole-Inv-loop run-whole-μ-loop
+run-whole-add-steps t c = omega (arith, c .before .before .before .before .before .before .row-size .ensures .1)
+
+-- src/whole.rt:40:5
 run-whole-loop-holds : (t : ℕ) → run-whole-lts.Need-loop-holds (
-  most-steps-reads.Asked,
-  most-steps-reads.Learnt,
-  started-reads.Asked,
-  started-reads.Learnt,
+  row-size-reads.Asked,
+  row-size-reads.Learnt,
+  start-change-reads.Asked,
+  start-change-reads.Learnt,
+  wrapping-add-u32-reads.Asked,
+  wrapping-add-u32-reads.Learnt,
   at-end-reads.Asked,
   at-end-reads.Learnt,
-  ended-reads.Asked,
-  ended-reads.Learnt,
-  place-in-reads.Asked,
-  place-in-reads.Learnt,
-  stepped-reads.Asked,
-  stepped-reads.Learnt,
-  child-at-reads.Asked,
-  child-at-reads.Learnt,
+  step-change-reads.Asked,
+  step-change-reads.Learnt,
   run-whole-below t,
   run-whole.Post,
+  end-change-reads.Asked,
+  end-change-reads.Learnt,
 ) (run-whole-at t) run-whole.Post run-whole-Inv-loop run-whole-μ-loop
 run-whole-loop-holds t c =
-    let a = c .before .before .before .args in
-    steps-all (a .bodies) (a .task) (c .before .most-steps .result) (c .started .result)
+    let a = c .before .before .before .before .before .before .before .before .before .before .before .before .args in
+    steps-all (a .bodies) (a .task) _ _
 
--- src/whole.rt:102:12
+-- src/whole.rt:41:19
+run-whole-mul-own-2 : (t : ℕ) → run-whole-lts.Need-mul-own-2 (
+  row-size-reads.Asked,
+  row-size-reads.Learnt,
+  start-change-reads.Asked,
+  start-change-reads.Learnt,
+  wrapping-add-u32-reads.Asked,
+  wrapping-add-u32-reads.Learnt,
+  at-end-reads.Asked,
+  at-end-reads.Learnt,
+  step-change-reads.Asked,
+  step-change-reads.Learnt,
+  run-whole-below t,
+  run-whole.Post,
+  end-change-reads.Asked,
+  end-change-reads.Learnt,
+) (run-whole-at t) run-whole.Post run-whole-Inv-loop run-whole-μ-loop
+run-whole-mul-own-2 t c = search needs
+
+-- src/whole.rt:41:19
+run-whole-element-copy-out-own-2 : (t : ℕ) → run-whole-lts.Need-element-copy-out-own-2 (
+  row-size-reads.Asked,
+  row-size-reads.Learnt,
+  start-change-reads.Asked,
+  start-change-reads.Learnt,
+  wrapping-add-u32-reads.Asked,
+  wrapping-add-u32-reads.Learnt,
+  at-end-reads.Asked,
+  at-end-reads.Learnt,
+  step-change-reads.Asked,
+  step-change-reads.Learnt,
+  run-whole-below t,
+  run-whole.Post,
+  end-change-reads.Asked,
+  end-change-reads.Learnt,
+) (run-whole-at t) run-whole.Post run-whole-Inv-loop run-whole-μ-loop
+run-whole-element-copy-out-own-2 t c = search needs
+
+-- src/whole.rt:42:72
+run-whole-cast-row-size-2 : (t : ℕ) → run-whole-lts.Need-cast-row-size-2 (
+  row-size-reads.Asked,
+  row-size-reads.Learnt,
+  start-change-reads.Asked,
+  start-change-reads.Learnt,
+  wrapping-add-u32-reads.Asked,
+  wrapping-add-u32-reads.Learnt,
+  at-end-reads.Asked,
+  at-end-reads.Learnt,
+  step-change-reads.Asked,
+  step-change-reads.Learnt,
+  run-whole-below t,
+  run-whole.Post,
+  end-change-reads.Asked,
+  end-change-reads.Learnt,
+) (run-whole-at t) run-whole.Post run-whole-Inv-loop run-whole-μ-loop
+run-whole-cast-row-size-2 t c = search needs
+
+-- src/whole.rt:42:13
+run-whole-row-size-requires-2 : (t : ℕ) → run-whole-lts.Need-row-size-requires-2 (
+  row-size-reads.Asked,
+  row-size-reads.Learnt,
+  start-change-reads.Asked,
+  start-change-reads.Learnt,
+  wrapping-add-u32-reads.Asked,
+  wrapping-add-u32-reads.Learnt,
+  at-end-reads.Asked,
+  at-end-reads.Learnt,
+  step-change-reads.Asked,
+  step-change-reads.Learnt,
+  run-whole-below t,
+  run-whole.Post,
+  end-change-reads.Asked,
+  end-change-reads.Learnt,
+) (run-whole-at t) run-whole.Post run-whole-Inv-loop run-whole-μ-loop
+run-whole-row-size-requires-2 t c κs = search needs
+
+-- src/whole.rt:43:12
 run-whole-at-end-requires : (t : ℕ) → run-whole-lts.Need-at-end-requires (
-  most-steps-reads.Asked,
-  most-steps-reads.Learnt,
-  started-reads.Asked,
-  started-reads.Learnt,
+  row-size-reads.Asked,
+  row-size-reads.Learnt,
+  start-change-reads.Asked,
+  start-change-reads.Learnt,
+  wrapping-add-u32-reads.Asked,
+  wrapping-add-u32-reads.Learnt,
   at-end-reads.Asked,
   at-end-reads.Learnt,
-  ended-reads.Asked,
-  ended-reads.Learnt,
-  place-in-reads.Asked,
-  place-in-reads.Learnt,
-  stepped-reads.Asked,
-  stepped-reads.Learnt,
-  child-at-reads.Asked,
-  child-at-reads.Learnt,
+  step-change-reads.Asked,
+  step-change-reads.Learnt,
   run-whole-below t,
   run-whole.Post,
+  end-change-reads.Asked,
+  end-change-reads.Learnt,
 ) (run-whole-at t) run-whole.Post run-whole-Inv-loop run-whole-μ-loop
-run-whole-at-end-requires t c κs = tt
+run-whole-at-end-requires t c κs = search needs
 
--- src/whole.rt:103:13
-run-whole-ended-requires : (t : ℕ) → run-whole-lts.Need-ended-requires (
-  most-steps-reads.Asked,
-  most-steps-reads.Learnt,
-  started-reads.Asked,
-  started-reads.Learnt,
-  at-end-reads.Asked,
-  at-end-reads.Learnt,
-  ended-reads.Asked,
-  ended-reads.Learnt,
-  place-in-reads.Asked,
-  place-in-reads.Learnt,
-  stepped-reads.Asked,
-  stepped-reads.Learnt,
-  child-at-reads.Asked,
-  child-at-reads.Learnt,
-  run-whole-below t,
-  run-whole.Post,
-) (run-whole-at t) run-whole.Post run-whole-Inv-loop run-whole-μ-loop
-run-whole-ended-requires t c κs = tt
-
--- src/whole.rt:103:13
-run-whole-returns-2 : (t : ℕ) → run-whole-lts.Need-returns-2 (
-  most-steps-reads.Asked,
-  most-steps-reads.Learnt,
-  started-reads.Asked,
-  started-reads.Learnt,
-  at-end-reads.Asked,
-  at-end-reads.Learnt,
-  ended-reads.Asked,
-  ended-reads.Learnt,
-  place-in-reads.Asked,
-  place-in-reads.Learnt,
-  stepped-reads.Asked,
-  stepped-reads.Learnt,
-  child-at-reads.Asked,
-  child-at-reads.Learnt,
-  run-whole-below t,
-  run-whole.Post,
-) (run-whole-at t) run-whole.Post run-whole-Inv-loop run-whole-μ-loop
-run-whole-returns-2 t c =
-    let a = c .before .before .before .before .before .before .before .before .args in
-    let l = c .before .before .before .before .loop in
-    whole-ended (a .bodies) (a .task) (a .run) (c .before .before .before .before .before .started .result) (c .before .before .before .before .before .before .before .if1 .left)
-    (c .before .before .before .before .before .before .most-steps .result) (c .before .before .before .before .before .before .most-steps .ensures) (c .before .before .before .before .before .started .ensures)
-    (l .left) (l .r) (l .inv) (c .ended .result) (c .ended .ensures)
-    (c .before .before .at-end .result) (c .before .before .at-end .ensures (c .before .before .before .before .before .before .before .before .pre .1)) (c .before .if2 .taken)
-
--- src/whole.rt:105:13
-run-whole-place-in-requires : (t : ℕ) → run-whole-lts.Need-place-in-requires (
-  most-steps-reads.Asked,
-  most-steps-reads.Learnt,
-  started-reads.Asked,
-  started-reads.Learnt,
-  at-end-reads.Asked,
-  at-end-reads.Learnt,
-  ended-reads.Asked,
-  ended-reads.Learnt,
-  place-in-reads.Asked,
-  place-in-reads.Learnt,
-  stepped-reads.Asked,
-  stepped-reads.Learnt,
-  child-at-reads.Asked,
-  child-at-reads.Learnt,
-  run-whole-below t,
-  run-whole.Post,
-) (run-whole-at t) run-whole.Post run-whole-Inv-loop run-whole-μ-loop
-run-whole-place-in-requires t c κs = tt
-
--- src/whole.rt:107:9
-run-whole-stepped-requires : (t : ℕ) → run-whole-lts.Need-stepped-requires (
-  most-steps-reads.Asked,
-  most-steps-reads.Learnt,
-  started-reads.Asked,
-  started-reads.Learnt,
-  at-end-reads.Asked,
-  at-end-reads.Learnt,
-  ended-reads.Asked,
-  ended-reads.Learnt,
-  place-in-reads.Asked,
-  place-in-reads.Learnt,
-  stepped-reads.Asked,
-  stepped-reads.Learnt,
-  child-at-reads.Asked,
-  child-at-reads.Learnt,
-  run-whole-below t,
-  run-whole.Post,
-) (run-whole-at t) run-whole.Post run-whole-Inv-loop run-whole-μ-loop
-run-whole-stepped-requires t c κs = tt
-
--- src/whole.rt:108:13
-run-whole-child-at-requires : (t : ℕ) → run-whole-lts.Need-child-at-requires (
-  most-steps-reads.Asked,
-  most-steps-reads.Learnt,
-  started-reads.Asked,
-  started-reads.Learnt,
-  at-end-reads.Asked,
-  at-end-reads.Learnt,
-  ended-reads.Asked,
-  ended-reads.Learnt,
-  place-in-reads.Asked,
-  place-in-reads.Learnt,
-  stepped-reads.Asked,
-  stepped-reads.Learnt,
-  child-at-reads.Asked,
-  child-at-reads.Learnt,
-  run-whole-below t,
-  run-whole.Post,
-) (run-whole-at t) run-whole.Post run-whole-Inv-loop run-whole-μ-loop
-run-whole-child-at-requires t c κs = tt
-
--- src/whole.rt:109:9
-run-whole-sub-left : (t : ℕ) → run-whole-lts.Need-sub-left (
-  most-steps-reads.Asked,
-  most-steps-reads.Learnt,
-  started-reads.Asked,
-  started-reads.Learnt,
-  at-end-reads.Asked,
-  at-end-reads.Learnt,
-  ended-reads.Asked,
-  ended-reads.Learnt,
-  place-in-reads.Asked,
-  place-in-reads.Learnt,
-  stepped-reads.Asked,
-  stepped-reads.Learnt,
-  child-at-reads.Asked,
-  child-at-reads.Learnt,
-  run-whole-below t,
-  run-whole.Post,
-) (run-whole-at t) run-whole.Post run-whole-Inv-loop run-whole-μ-loop
-run-whole-sub-left t c = omega arith
-
--- src/whole.rt:101:5
+-- src/whole.rt:40:5
 run-whole-loop-less : (t : ℕ) → run-whole-lts.Need-loop-less (
-  most-steps-reads.Asked,
-  most-steps-reads.Learnt,
-  started-reads.Asked,
-  started-reads.Learnt,
+  row-size-reads.Asked,
+  row-size-reads.Learnt,
+  start-change-reads.Asked,
+  start-change-reads.Learnt,
+  wrapping-add-u32-reads.Asked,
+  wrapping-add-u32-reads.Learnt,
   at-end-reads.Asked,
   at-end-reads.Learnt,
-  ended-reads.Asked,
-  ended-reads.Learnt,
-  place-in-reads.Asked,
-  place-in-reads.Learnt,
-  stepped-reads.Asked,
-  stepped-reads.Learnt,
-  child-at-reads.Asked,
-  child-at-reads.Learnt,
+  step-change-reads.Asked,
+  step-change-reads.Learnt,
   run-whole-below t,
   run-whole.Post,
+  end-change-reads.Asked,
+  end-change-reads.Learnt,
 ) (run-whole-at t) run-whole.Post run-whole-Inv-loop run-whole-μ-loop
-run-whole-loop-less t c = omega (arith, c .before .before .before .before .before .before .loop-test .taken)
+run-whole-loop-less t c = omega (arith, c .before .before .before .before .before .before .before .loop-test .taken)
 
--- src/whole.rt:101:5
+-- src/whole.rt:40:5
 run-whole-loop-again : (t : ℕ) → run-whole-lts.Need-loop-again (
-  most-steps-reads.Asked,
-  most-steps-reads.Learnt,
-  started-reads.Asked,
-  started-reads.Learnt,
+  row-size-reads.Asked,
+  row-size-reads.Learnt,
+  start-change-reads.Asked,
+  start-change-reads.Learnt,
+  wrapping-add-u32-reads.Asked,
+  wrapping-add-u32-reads.Learnt,
   at-end-reads.Asked,
   at-end-reads.Learnt,
-  ended-reads.Asked,
-  ended-reads.Learnt,
-  place-in-reads.Asked,
-  place-in-reads.Learnt,
-  stepped-reads.Asked,
-  stepped-reads.Learnt,
-  child-at-reads.Asked,
-  child-at-reads.Learnt,
+  step-change-reads.Asked,
+  step-change-reads.Learnt,
   run-whole-below t,
   run-whole.Post,
+  end-change-reads.Asked,
+  end-change-reads.Learnt,
 ) (run-whole-at t) run-whole.Post run-whole-Inv-loop run-whole-μ-loop
 run-whole-loop-again t c =
-    let a = c .before .before .before .before .before .before .before .before .before .before .before .args in
-    let l = c .before .before .before .before .before .before .before .loop in
-    turn-none (a .bodies) (a .task) (c .before .before .before .before .before .before .before .before .before .most-steps .result) (c .before .before .before .before .before .before .before .before .started .result) (l .left) (l .r) (c .before .before .stepped .result) (l .inv)
-    (c .before .before .before .before .before .before .loop-test .taken) (c .before .before .before .before .before .at-end .result) (c .before .before .before .before .before .at-end .ensures (c .before .before .before .before .before .before .before .before .before .before .before .pre .1)) (c .before .before .before .before .if2 .left) (c .before .before .stepped .ensures)
-    (c .before .child-at .result) (c .before .child-at .ensures (l .r) (a .task) refl (c .before .before .before .place-in .ensures))
-    (c .if3 .taken)
+    let a = c .before .before .before .before .before .before .before .before .before .before .before .before .before .before .before .before .before .before .before .before .before .args in
+    let sizes = length-lowered (λ (v : ℕ). v) (a .t1 .sizes) 32 (c .before .before .before .before .before .before .before .before .before .before .before .before .before .before .before .before .before .before .before .before .before .good .0 .1 .1 .1 .1 .1 .1 .1 .0 .1 .0 .1) in
+    let cells = length-lowered (the-cell .to) (a .t1 .cells) 1024 (c .before .before .before .before .before .before .before .before .before .before .before .before .before .before .before .before .before .before .before .before .before .good .0 .1 .1 .1 .1 .1 .1 .1 .1 .0 .1 .0 .1) in
+    let run = joined (a .t1) (a .progress) (now (a .memory)) (now (a .modes)) (now (a .order)) in
+    let size = c .before .before .before .before .before .before .before .before .before .before .before .before .before .before .before .row-size in
+    let limit = size .result + 1 in
+    let room = enough-steps run (a .task) (c .before .before .before .before .before .before .before .before .before .before .before .before .before .before .before .before .before .before .before .before .before .pre .1) (size .result) (size .ensures .0 ∙ body-size-is (a .t1) (record-of run (a .task) .body) sizes cells) in
+    let change = c .before .before .before .before .before .before .before .before .before .before .before .before .start-change in
+    let calls = c .before .before .before .before .before .before .before .before .before .before .wrapping-add-u32 in
+    let weight = c .before .before .before .before .before .before .before .before .before .wrapping-add-u322 in
+    let from = joined (a .t1) (onward (a .progress) (a .task) (change .result) (calls .result) (weight .result)) (now (a .memory)) (now (a .modes)) (now (a .order)) in
+    let begun = start-joined (a .t1) (a .progress) (now (a .memory)) (now (a .modes)) (now (a .order)) (a .task) (change .result) (calls .result) (weight .result) (calls .ensures) (weight .ensures) (change .ensures) in
+    let l = c .before .before .before .before .before .before .before .before .loop in
+    let r = joined (a .t1) (l .p) (l .memory) (l .modes) (l .order) in
+    let size2 = c .before .before .row-size2 in
+    let at = c .before .at-end in
+    let there : SoundRun r → at .result ≡ at-end (context-of r) (task-of (model r) (a .task)) =
+    λ s. at .ensures ∙ ends r (a .task) (size2 .result) (record-of r (a .task)) (c .before .before .before .before .before .before .before .before .before .before .before .before .before .before .before .before .before .before .before .before .before .pre .1) refl (size2 .ensures .0 ∙ body-size-is (a .t1) (record-of r (a .task) .body) sizes cells) s in
+    turn-ended (a .bodies) (a .task) limit from (l .steps) r (l .inv) (at .result) there (c .if2 .taken)
 
--- src/whole.rt:113:33
-run-whole-sub-run-whole : (t : ℕ) → run-whole-lts.Need-sub-run-whole (
-  most-steps-reads.Asked,
-  most-steps-reads.Learnt,
-  started-reads.Asked,
-  started-reads.Learnt,
+-- src/whole.rt:47:86
+run-whole-cast-step-change : (t : ℕ) → run-whole-lts.Need-cast-step-change (
+  row-size-reads.Asked,
+  row-size-reads.Learnt,
+  start-change-reads.Asked,
+  start-change-reads.Learnt,
+  wrapping-add-u32-reads.Asked,
+  wrapping-add-u32-reads.Learnt,
   at-end-reads.Asked,
   at-end-reads.Learnt,
-  ended-reads.Asked,
-  ended-reads.Learnt,
-  place-in-reads.Asked,
-  place-in-reads.Learnt,
-  stepped-reads.Asked,
-  stepped-reads.Learnt,
-  child-at-reads.Asked,
-  child-at-reads.Learnt,
+  step-change-reads.Asked,
+  step-change-reads.Learnt,
   run-whole-below t,
   run-whole.Post,
+  end-change-reads.Asked,
+  end-change-reads.Learnt,
 ) (run-whole-at t) run-whole.Post run-whole-Inv-loop run-whole-μ-loop
-run-whole-sub-run-whole t c = pos-of-ne-zero (c .before .before .before .before .before .before .before .before .before .before .if1 .left)
+run-whole-cast-step-change t c = omega (arith, c .before .before .before .before .before .before .before .before .before .before .before .before .before .before .before .before .before .before .before .before .before .before .before .before .pre .1)
 
--- src/whole.rt:113:9
-run-whole-run-whole-requires : (t : ℕ) → run-whole-lts.Need-run-whole-requires (
-  most-steps-reads.Asked,
-  most-steps-reads.Learnt,
-  started-reads.Asked,
-  started-reads.Learnt,
+-- src/whole.rt:47:13
+run-whole-step-change-requires : (t : ℕ) → run-whole-lts.Need-step-change-requires (
+  row-size-reads.Asked,
+  row-size-reads.Learnt,
+  start-change-reads.Asked,
+  start-change-reads.Learnt,
+  wrapping-add-u32-reads.Asked,
+  wrapping-add-u32-reads.Learnt,
   at-end-reads.Asked,
   at-end-reads.Learnt,
-  ended-reads.Asked,
-  ended-reads.Learnt,
-  place-in-reads.Asked,
-  place-in-reads.Learnt,
-  stepped-reads.Asked,
-  stepped-reads.Learnt,
-  child-at-reads.Asked,
-  child-at-reads.Learnt,
+  step-change-reads.Asked,
+  step-change-reads.Learnt,
   run-whole-below t,
   run-whole.Post,
+  end-change-reads.Asked,
+  end-change-reads.Learnt,
 ) (run-whole-at t) run-whole.Post run-whole-Inv-loop run-whole-μ-loop
-run-whole-run-whole-requires t c κs =
-    let a = c .before .before .before .before .before .before .before .before .before .before .before .args in
-    let some = pos-of-ne-zero (c .before .before .before .before .before .before .before .before .before .before .if1 .left) in
-    (subst (λ j. a .bodies - 1 < j) (c .before .before .before .before .before .before .before .before .before .before .before .pre .0) (omega (arith, some)), omega (arith, c .if3 .left))
+run-whole-step-change-requires t c κs = search needs
 
--- src/whole.rt:101:5
+-- src/whole.rt:49:9
+run-whole-mul-next-2 : (t : ℕ) → run-whole-lts.Need-mul-next-2 (
+  row-size-reads.Asked,
+  row-size-reads.Learnt,
+  start-change-reads.Asked,
+  start-change-reads.Learnt,
+  wrapping-add-u32-reads.Asked,
+  wrapping-add-u32-reads.Learnt,
+  at-end-reads.Asked,
+  at-end-reads.Learnt,
+  step-change-reads.Asked,
+  step-change-reads.Learnt,
+  run-whole-below t,
+  run-whole.Post,
+  end-change-reads.Asked,
+  end-change-reads.Learnt,
+) (run-whole-at t) run-whole.Post run-whole-Inv-loop run-whole-μ-loop
+run-whole-mul-next-2 t c = omega (arith, c .before .before .before .before .before .before .before .before .before .before .before .before .before .before .before .before .before .before .before .before .before .before .before .before .before .before .pre .1)
+
+-- src/whole.rt:49:9
+run-whole-element-set-from-next-2 : (t : ℕ) → run-whole-lts.Need-element-set-from-next-2 (
+  row-size-reads.Asked,
+  row-size-reads.Learnt,
+  start-change-reads.Asked,
+  start-change-reads.Learnt,
+  wrapping-add-u32-reads.Asked,
+  wrapping-add-u32-reads.Learnt,
+  at-end-reads.Asked,
+  at-end-reads.Learnt,
+  step-change-reads.Asked,
+  step-change-reads.Learnt,
+  run-whole-below t,
+  run-whole.Post,
+  end-change-reads.Asked,
+  end-change-reads.Learnt,
+) (run-whole-at t) run-whole.Post run-whole-Inv-loop run-whole-μ-loop
+run-whole-element-set-from-next-2 t c = omega (arith, c .before .before .before .before .before .before .before .before .before .before .before .before .before .before .before .before .before .before .before .before .before .before .before .before .before .before .pre .1)
+
+-- src/whole.rt:51:19
+run-whole-wrapping-add-u32-requires-3 : (t : ℕ) → run-whole-lts.Need-wrapping-add-u32-requires-3 (
+  row-size-reads.Asked,
+  row-size-reads.Learnt,
+  start-change-reads.Asked,
+  start-change-reads.Learnt,
+  wrapping-add-u32-reads.Asked,
+  wrapping-add-u32-reads.Learnt,
+  at-end-reads.Asked,
+  at-end-reads.Learnt,
+  step-change-reads.Asked,
+  step-change-reads.Learnt,
+  run-whole-below t,
+  run-whole.Post,
+  end-change-reads.Asked,
+  end-change-reads.Learnt,
+) (run-whole-at t) run-whole.Post run-whole-Inv-loop run-whole-μ-loop
+run-whole-wrapping-add-u32-requires-3 t c κs = search needs
+
+-- src/whole.rt:52:20
+run-whole-wrapping-add-u32-requires-4 : (t : ℕ) → run-whole-lts.Need-wrapping-add-u32-requires-4 (
+  row-size-reads.Asked,
+  row-size-reads.Learnt,
+  start-change-reads.Asked,
+  start-change-reads.Learnt,
+  wrapping-add-u32-reads.Asked,
+  wrapping-add-u32-reads.Learnt,
+  at-end-reads.Asked,
+  at-end-reads.Learnt,
+  step-change-reads.Asked,
+  step-change-reads.Learnt,
+  run-whole-below t,
+  run-whole.Post,
+  end-change-reads.Asked,
+  end-change-reads.Learnt,
+) (run-whole-at t) run-whole.Post run-whole-Inv-loop run-whole-μ-loop
+run-whole-wrapping-add-u32-requires-4 t c κs = search needs
+
+-- src/whole.rt:53:9
+run-whole-sub-steps : (t : ℕ) → run-whole-lts.Need-sub-steps (
+  row-size-reads.Asked,
+  row-size-reads.Learnt,
+  start-change-reads.Asked,
+  start-change-reads.Learnt,
+  wrapping-add-u32-reads.Asked,
+  wrapping-add-u32-reads.Learnt,
+  at-end-reads.Asked,
+  at-end-reads.Learnt,
+  step-change-reads.Asked,
+  step-change-reads.Learnt,
+  run-whole-below t,
+  run-whole.Post,
+  end-change-reads.Asked,
+  end-change-reads.Learnt,
+) (run-whole-at t) run-whole.Post run-whole-Inv-loop run-whole-μ-loop
+run-whole-sub-steps t c = omega arith
+
+-- src/whole.rt:40:5
 run-whole-loop-less-2 : (t : ℕ) → run-whole-lts.Need-loop-less-2 (
-  most-steps-reads.Asked,
-  most-steps-reads.Learnt,
-  started-reads.Asked,
-  started-reads.Learnt,
+  row-size-reads.Asked,
+  row-size-reads.Learnt,
+  start-change-reads.Asked,
+  start-change-reads.Learnt,
+  wrapping-add-u32-reads.Asked,
+  wrapping-add-u32-reads.Learnt,
   at-end-reads.Asked,
   at-end-reads.Learnt,
-  ended-reads.Asked,
-  ended-reads.Learnt,
-  place-in-reads.Asked,
-  place-in-reads.Learnt,
-  stepped-reads.Asked,
-  stepped-reads.Learnt,
-  child-at-reads.Asked,
-  child-at-reads.Learnt,
+  step-change-reads.Asked,
+  step-change-reads.Learnt,
   run-whole-below t,
   run-whole.Post,
+  end-change-reads.Asked,
+  end-change-reads.Learnt,
 ) (run-whole-at t) run-whole.Post run-whole-Inv-loop run-whole-μ-loop
-run-whole-loop-less-2 t c = omega (arith, c .before .before .before .before .before .before .before .loop-test .taken)
+run-whole-loop-less-2 t c = omega (arith, c .before .before .before .before .before .before .before .before .before .before .before .before .before .before .before .loop-test .taken)
 
--- src/whole.rt:101:5
+-- src/whole.rt:40:5
 run-whole-loop-again-2 : (t : ℕ) → run-whole-lts.Need-loop-again-2 (
-  most-steps-reads.Asked,
-  most-steps-reads.Learnt,
-  started-reads.Asked,
-  started-reads.Learnt,
+  row-size-reads.Asked,
+  row-size-reads.Learnt,
+  start-change-reads.Asked,
+  start-change-reads.Learnt,
+  wrapping-add-u32-reads.Asked,
+  wrapping-add-u32-reads.Learnt,
   at-end-reads.Asked,
   at-end-reads.Learnt,
-  ended-reads.Asked,
-  ended-reads.Learnt,
-  place-in-reads.Asked,
-  place-in-reads.Learnt,
-  stepped-reads.Asked,
-  stepped-reads.Learnt,
-  child-at-reads.Asked,
-  child-at-reads.Learnt,
+  step-change-reads.Asked,
+  step-change-reads.Learnt,
   run-whole-below t,
   run-whole.Post,
+  end-change-reads.Asked,
+  end-change-reads.Learnt,
 ) (run-whole-at t) run-whole.Post run-whole-Inv-loop run-whole-μ-loop
 run-whole-loop-again-2 t c =
-    let a = c .before .before .before .before .before .before .before .before .before .before .before .before .args in
-    let l = c .before .before .before .before .before .before .before .before .loop in
-    turn-child (a .bodies) (a .task) (c .before .before .before .before .before .before .before .before .before .before .most-steps .result) (c .before .before .before .before .before .before .before .before .before .started .result) (l .left) (l .r) (c .before .before .before .stepped .result) (l .inv)
-    (c .before .before .before .before .before .before .before .loop-test .taken) (c .before .before .before .before .before .before .at-end .result) (c .before .before .before .before .before .before .at-end .ensures (c .before .before .before .before .before .before .before .before .before .before .before .before .pre .1)) (c .before .before .before .before .before .if2 .left) (c .before .before .before .stepped .ensures)
-    (c .before .before .child-at .result) (c .before .before .child-at .ensures (l .r) (a .task) refl (c .before .before .before .before .place-in .ensures))
-    (c .before .if3 .left) (c .run-whole .result) (c .run-whole .ensures)
+    let a = c .before .before .before .before .before .before .before .before .before .before .before .before .before .before .before .before .before .before .before .before .before .before .before .before .before .before .before .before .before .args in
+    let sizes = length-lowered (λ (v : ℕ). v) (a .t1 .sizes) 32 (c .before .before .before .before .before .before .before .before .before .before .before .before .before .before .before .before .before .before .before .before .before .before .before .before .before .before .before .before .before .good .0 .1 .1 .1 .1 .1 .1 .1 .0 .1 .0 .1) in
+    let cells = length-lowered (the-cell .to) (a .t1 .cells) 1024 (c .before .before .before .before .before .before .before .before .before .before .before .before .before .before .before .before .before .before .before .before .before .before .before .before .before .before .before .before .before .good .0 .1 .1 .1 .1 .1 .1 .1 .1 .0 .1 .0 .1) in
+    let run = joined (a .t1) (a .progress) (now (a .memory)) (now (a .modes)) (now (a .order)) in
+    let size = c .before .before .before .before .before .before .before .before .before .before .before .before .before .before .before .before .before .before .before .before .before .before .before .row-size in
+    let limit = size .result + 1 in
+    let room = enough-steps run (a .task) (c .before .before .before .before .before .before .before .before .before .before .before .before .before .before .before .before .before .before .before .before .before .before .before .before .before .before .before .before .before .pre .1) (size .result) (size .ensures .0 ∙ body-size-is (a .t1) (record-of run (a .task) .body) sizes cells) in
+    let change = c .before .before .before .before .before .before .before .before .before .before .before .before .before .before .before .before .before .before .before .before .start-change in
+    let calls = c .before .before .before .before .before .before .before .before .before .before .before .before .before .before .before .before .before .before .wrapping-add-u32 in
+    let weight = c .before .before .before .before .before .before .before .before .before .before .before .before .before .before .before .before .before .wrapping-add-u322 in
+    let from = joined (a .t1) (onward (a .progress) (a .task) (change .result) (calls .result) (weight .result)) (now (a .memory)) (now (a .modes)) (now (a .order)) in
+    let begun = start-joined (a .t1) (a .progress) (now (a .memory)) (now (a .modes)) (now (a .order)) (a .task) (change .result) (calls .result) (weight .result) (calls .ensures) (weight .ensures) (change .ensures) in
+    let l = c .before .before .before .before .before .before .before .before .before .before .before .before .before .before .before .before .loop in
+    let r = joined (a .t1) (l .p) (l .memory) (l .modes) (l .order) in
+    let size2 = c .before .before .before .before .before .before .before .before .before .before .row-size2 in
+    let at = c .before .before .before .before .before .before .before .before .before .at-end in
+    let there : SoundRun r → at .result ≡ at-end (context-of r) (task-of (model r) (a .task)) =
+    λ s. at .ensures ∙ ends r (a .task) (size2 .result) (record-of r (a .task)) (c .before .before .before .before .before .before .before .before .before .before .before .before .before .before .before .before .before .before .before .before .before .before .before .before .before .before .before .before .before .pre .1) refl (size2 .ensures .0 ∙ body-size-is (a .t1) (record-of r (a .task) .body) sizes cells) s in
+    let stepping = c .before .before .before .before .step-change in
+    let calls2 = c .before .before .wrapping-add-u323 in
+    let weight2 = c .before .wrapping-add-u324 in
+    let m = stepping .last .1 .0 in
+    let ms = stepping .last .1 .1 .0 in
+    let o = stepping .last .1 .1 .1 .0 in
+    let p = onward (l .p) (a .task) (stepping .result) (calls2 .result) (weight2 .result) in
+    turn-none (a .bodies) (a .task) limit from (l .steps) r (joined (a .t1) p m ms o) (l .inv) (c .before .before .before .before .before .before .before .before .before .before .before .before .before .before .before .loop-test .taken) (at .result) there (c .before .before .before .before .before .before .before .before .if2 .left)
+    (step-joined (a .t1) (l .p) (l .memory) (l .modes) (l .order) (a .task) (stepping .result) (calls2 .result) (weight2 .result) (calls2 .ensures) (weight2 .ensures) m ms o (stepping .ensures) (c .if3 .taken)) (stepping .result .child)
+    (makes-joined (a .t1) (l .p) (l .memory) (l .modes) (l .order) (a .task) (stepping .result) (calls2 .result) (weight2 .result) (calls2 .ensures) (weight2 .ensures) m ms o (stepping .ensures)) (c .if3 .taken)
 
--- src/whole.rt:115:5
-run-whole-ended-requires-2 : (t : ℕ) → run-whole-lts.Need-ended-requires-2 (
-  most-steps-reads.Asked,
-  most-steps-reads.Learnt,
-  started-reads.Asked,
-  started-reads.Learnt,
+-- src/whole.rt:59:9
+run-whole-mul-made : (t : ℕ) → run-whole-lts.Need-mul-made (
+  row-size-reads.Asked,
+  row-size-reads.Learnt,
+  start-change-reads.Asked,
+  start-change-reads.Learnt,
+  wrapping-add-u32-reads.Asked,
+  wrapping-add-u32-reads.Learnt,
   at-end-reads.Asked,
   at-end-reads.Learnt,
-  ended-reads.Asked,
-  ended-reads.Learnt,
-  place-in-reads.Asked,
-  place-in-reads.Learnt,
-  stepped-reads.Asked,
-  stepped-reads.Learnt,
-  child-at-reads.Asked,
-  child-at-reads.Learnt,
+  step-change-reads.Asked,
+  step-change-reads.Learnt,
   run-whole-below t,
   run-whole.Post,
+  end-change-reads.Asked,
+  end-change-reads.Learnt,
 ) (run-whole-at t) run-whole.Post run-whole-Inv-loop run-whole-μ-loop
-run-whole-ended-requires-2 t c κs = tt
+run-whole-mul-made t c = search needs
 
--- src/whole.rt:92:1
-run-whole-returns-3 : (t : ℕ) → run-whole-lts.Need-returns-3 (
-  most-steps-reads.Asked,
-  most-steps-reads.Learnt,
-  started-reads.Asked,
-  started-reads.Learnt,
+-- src/whole.rt:59:9
+run-whole-element-set-from-made : (t : ℕ) → run-whole-lts.Need-element-set-from-made (
+  row-size-reads.Asked,
+  row-size-reads.Learnt,
+  start-change-reads.Asked,
+  start-change-reads.Learnt,
+  wrapping-add-u32-reads.Asked,
+  wrapping-add-u32-reads.Learnt,
   at-end-reads.Asked,
   at-end-reads.Learnt,
-  ended-reads.Asked,
-  ended-reads.Learnt,
-  place-in-reads.Asked,
-  place-in-reads.Learnt,
-  stepped-reads.Asked,
-  stepped-reads.Learnt,
-  child-at-reads.Asked,
-  child-at-reads.Learnt,
+  step-change-reads.Asked,
+  step-change-reads.Learnt,
   run-whole-below t,
   run-whole.Post,
+  end-change-reads.Asked,
+  end-change-reads.Learnt,
 ) (run-whole-at t) run-whole.Post run-whole-Inv-loop run-whole-μ-loop
-run-whole-returns-3 t c =
-    let a = c .before .before .before .before .before .before .args in
-    let l = c .before .before .loop in
-    whole-spent (a .bodies) (a .task) (a .run) (c .before .before .before .started .result) (c .before .before .before .before .before .if1 .left)
-    (c .before .before .before .before .most-steps .result) (c .before .before .before .before .most-steps .ensures) (c .before .before .before .started .ensures)
-    (l .left) (l .r) (l .inv) (c .ended2 .result) (c .ended2 .ensures)
-    (c .before .loop-test .left)
+run-whole-element-set-from-made t c = search needs
+
+-- src/whole.rt:60:63
+run-whole-sub-run-whole : (t : ℕ) → run-whole-lts.Need-sub-run-whole (
+  row-size-reads.Asked,
+  row-size-reads.Learnt,
+  start-change-reads.Asked,
+  start-change-reads.Learnt,
+  wrapping-add-u32-reads.Asked,
+  wrapping-add-u32-reads.Learnt,
+  at-end-reads.Asked,
+  at-end-reads.Learnt,
+  step-change-reads.Asked,
+  step-change-reads.Learnt,
+  run-whole-below t,
+  run-whole.Post,
+  end-change-reads.Asked,
+  end-change-reads.Learnt,
+) (run-whole-at t) run-whole.Post run-whole-Inv-loop run-whole-μ-loop
+run-whole-sub-run-whole t c = pos-of-ne-zero (c .before .before .before .before .before .before .before .before .before .before .before .before .before .before .before .before .before .before .before .before .before .before .before .before .before .before .before .before .before .before .before .before .if1 .left)
+
+-- src/whole.rt:60:13
+run-whole-run-whole-requires : (t : ℕ) → run-whole-lts.Need-run-whole-requires (
+  row-size-reads.Asked,
+  row-size-reads.Learnt,
+  start-change-reads.Asked,
+  start-change-reads.Learnt,
+  wrapping-add-u32-reads.Asked,
+  wrapping-add-u32-reads.Learnt,
+  at-end-reads.Asked,
+  at-end-reads.Learnt,
+  step-change-reads.Asked,
+  step-change-reads.Learnt,
+  run-whole-below t,
+  run-whole.Post,
+  end-change-reads.Asked,
+  end-change-reads.Learnt,
+) (run-whole-at t) run-whole.Post run-whole-Inv-loop run-whole-μ-loop
+run-whole-run-whole-requires t c κs =
+    let a = c .before .before .before .before .before .before .before .before .before .before .before .before .before .before .before .before .before .before .before .before .before .before .before .before .before .before .before .before .before .before .before .before .before .args in
+    let some = pos-of-ne-zero (c .before .before .before .before .before .before .before .before .before .before .before .before .before .before .before .before .before .before .before .before .before .before .before .before .before .before .before .before .before .before .before .before .if1 .left) in
+    (subst (λ j. a .bodies - 1 < j) (c .before .before .before .before .before .before .before .before .before .before .before .before .before .before .before .before .before .before .before .before .before .before .before .before .before .before .before .before .before .before .before .before .before .pre .0) (omega (arith, some)), omega (arith, c .before .before .before .before .if3 .left))
+
+-- src/whole.rt:40:5
+run-whole-loop-less-3 : (t : ℕ) → run-whole-lts.Need-loop-less-3 (
+  row-size-reads.Asked,
+  row-size-reads.Learnt,
+  start-change-reads.Asked,
+  start-change-reads.Learnt,
+  wrapping-add-u32-reads.Asked,
+  wrapping-add-u32-reads.Learnt,
+  at-end-reads.Asked,
+  at-end-reads.Learnt,
+  step-change-reads.Asked,
+  step-change-reads.Learnt,
+  run-whole-below t,
+  run-whole.Post,
+  end-change-reads.Asked,
+  end-change-reads.Learnt,
+) (run-whole-at t) run-whole.Post run-whole-Inv-loop run-whole-μ-loop
+run-whole-loop-less-3 t c = omega (arith, c .before .before .before .before .before .before .before .before .before .before .before .before .before .before .before .before .before .before .before .before .loop-test .taken)
+
+-- src/whole.rt:40:5
+run-whole-loop-again-3 : (t : ℕ) → run-whole-lts.Need-loop-again-3 (
+  row-size-reads.Asked,
+  row-size-reads.Learnt,
+  start-change-reads.Asked,
+  start-change-reads.Learnt,
+  wrapping-add-u32-reads.Asked,
+  wrapping-add-u32-reads.Learnt,
+  at-end-reads.Asked,
+  at-end-reads.Learnt,
+  step-change-reads.Asked,
+  step-change-reads.Learnt,
+  run-whole-below t,
+  run-whole.Post,
+  end-change-reads.Asked,
+  end-change-reads.Learnt,
+) (run-whole-at t) run-whole.Post run-whole-Inv-loop run-whole-μ-loop
+run-whole-loop-again-3 t c =
+    let a = c .before .before .before .before .before .before .before .before .before .before .before .before .before .before .before .before .before .before .before .before .before .before .before .before .before .before .before .before .before .before .before .before .before .before .args in
+    let sizes = length-lowered (λ (v : ℕ). v) (a .t1 .sizes) 32 (c .before .before .before .before .before .before .before .before .before .before .before .before .before .before .before .before .before .before .before .before .before .before .before .before .before .before .before .before .before .before .before .before .before .before .good .0 .1 .1 .1 .1 .1 .1 .1 .0 .1 .0 .1) in
+    let cells = length-lowered (the-cell .to) (a .t1 .cells) 1024 (c .before .before .before .before .before .before .before .before .before .before .before .before .before .before .before .before .before .before .before .before .before .before .before .before .before .before .before .before .before .before .before .before .before .before .good .0 .1 .1 .1 .1 .1 .1 .1 .1 .0 .1 .0 .1) in
+    let run = joined (a .t1) (a .progress) (now (a .memory)) (now (a .modes)) (now (a .order)) in
+    let size = c .before .before .before .before .before .before .before .before .before .before .before .before .before .before .before .before .before .before .before .before .before .before .before .before .before .before .before .before .row-size in
+    let limit = size .result + 1 in
+    let room = enough-steps run (a .task) (c .before .before .before .before .before .before .before .before .before .before .before .before .before .before .before .before .before .before .before .before .before .before .before .before .before .before .before .before .before .before .before .before .before .before .pre .1) (size .result) (size .ensures .0 ∙ body-size-is (a .t1) (record-of run (a .task) .body) sizes cells) in
+    let change = c .before .before .before .before .before .before .before .before .before .before .before .before .before .before .before .before .before .before .before .before .before .before .before .before .before .start-change in
+    let calls = c .before .before .before .before .before .before .before .before .before .before .before .before .before .before .before .before .before .before .before .before .before .before .before .wrapping-add-u32 in
+    let weight = c .before .before .before .before .before .before .before .before .before .before .before .before .before .before .before .before .before .before .before .before .before .before .wrapping-add-u322 in
+    let from = joined (a .t1) (onward (a .progress) (a .task) (change .result) (calls .result) (weight .result)) (now (a .memory)) (now (a .modes)) (now (a .order)) in
+    let begun = start-joined (a .t1) (a .progress) (now (a .memory)) (now (a .modes)) (now (a .order)) (a .task) (change .result) (calls .result) (weight .result) (calls .ensures) (weight .ensures) (change .ensures) in
+    let l = c .before .before .before .before .before .before .before .before .before .before .before .before .before .before .before .before .before .before .before .before .before .loop in
+    let r = joined (a .t1) (l .p) (l .memory) (l .modes) (l .order) in
+    let size2 = c .before .before .before .before .before .before .before .before .before .before .before .before .before .before .before .row-size2 in
+    let at = c .before .before .before .before .before .before .before .before .before .before .before .before .before .before .at-end in
+    let there : SoundRun r → at .result ≡ at-end (context-of r) (task-of (model r) (a .task)) =
+    λ s. at .ensures ∙ ends r (a .task) (size2 .result) (record-of r (a .task)) (c .before .before .before .before .before .before .before .before .before .before .before .before .before .before .before .before .before .before .before .before .before .before .before .before .before .before .before .before .before .before .before .before .before .before .pre .1) refl (size2 .ensures .0 ∙ body-size-is (a .t1) (record-of r (a .task) .body) sizes cells) s in
+    let stepping = c .before .before .before .before .before .before .before .before .before .step-change in
+    let calls2 = c .before .before .before .before .before .before .before .wrapping-add-u323 in
+    let weight2 = c .before .before .before .before .before .before .wrapping-add-u324 in
+    let m = stepping .last .1 .0 in
+    let ms = stepping .last .1 .1 .0 in
+    let o = stepping .last .1 .1 .1 .0 in
+    let p = onward (l .p) (a .task) (stepping .result) (calls2 .result) (weight2 .result) in
+    let near : stepping .result .child ≤ 127 = omega (arith, c .before .before .before .before .before .if3 .left) in
+    turn-child (a .bodies) (a .task) limit from (l .steps) r (joined (a .t1) (with-record p (stepping .result .child) (stepping .result .made)) m ms o) (l .inv) (c .before .before .before .before .before .before .before .before .before .before .before .before .before .before .before .before .before .before .before .before .loop-test .taken) (at .result) there (c .before .before .before .before .before .before .before .before .before .before .before .before .before .if2 .left)
+    (spawn-joined (a .t1) (l .p) (l .memory) (l .modes) (l .order) (a .task) (stepping .result) (calls2 .result) (weight2 .result) (calls2 .ensures) (weight2 .ensures) m ms o (stepping .ensures) near) (stepping .result .child)
+    (makes-joined (a .t1) (l .p) (l .memory) (l .modes) (l .order) (a .task) (stepping .result) (calls2 .result) (weight2 .result) (calls2 .ensures) (weight2 .ensures) m ms o (stepping .ensures)) near
+    (joined (a .t1) (c .run-whole .result) (c .run-whole .last .1 .1 .0) (c .run-whole .last .1 .1 .1 .0) (c .run-whole .last .1 .1 .1 .1 .0)) (c .run-whole .ensures)
+
+-- src/whole.rt:62:15
+run-whole-mul-own-3 : (t : ℕ) → run-whole-lts.Need-mul-own-3 (
+  row-size-reads.Asked,
+  row-size-reads.Learnt,
+  start-change-reads.Asked,
+  start-change-reads.Learnt,
+  wrapping-add-u32-reads.Asked,
+  wrapping-add-u32-reads.Learnt,
+  at-end-reads.Asked,
+  at-end-reads.Learnt,
+  step-change-reads.Asked,
+  step-change-reads.Learnt,
+  run-whole-below t,
+  run-whole.Post,
+  end-change-reads.Asked,
+  end-change-reads.Learnt,
+) (run-whole-at t) run-whole.Post run-whole-Inv-loop run-whole-μ-loop
+run-whole-mul-own-3 t c = search needs
+
+-- src/whole.rt:62:15
+run-whole-element-copy-out-own-3 : (t : ℕ) → run-whole-lts.Need-element-copy-out-own-3 (
+  row-size-reads.Asked,
+  row-size-reads.Learnt,
+  start-change-reads.Asked,
+  start-change-reads.Learnt,
+  wrapping-add-u32-reads.Asked,
+  wrapping-add-u32-reads.Learnt,
+  at-end-reads.Asked,
+  at-end-reads.Learnt,
+  step-change-reads.Asked,
+  step-change-reads.Learnt,
+  run-whole-below t,
+  run-whole.Post,
+  end-change-reads.Asked,
+  end-change-reads.Learnt,
+) (run-whole-at t) run-whole.Post run-whole-Inv-loop run-whole-μ-loop
+run-whole-element-copy-out-own-3 t c = search needs
+
+-- src/whole.rt:63:68
+run-whole-cast-row-size-3 : (t : ℕ) → run-whole-lts.Need-cast-row-size-3 (
+  row-size-reads.Asked,
+  row-size-reads.Learnt,
+  start-change-reads.Asked,
+  start-change-reads.Learnt,
+  wrapping-add-u32-reads.Asked,
+  wrapping-add-u32-reads.Learnt,
+  at-end-reads.Asked,
+  at-end-reads.Learnt,
+  step-change-reads.Asked,
+  step-change-reads.Learnt,
+  run-whole-below t,
+  run-whole.Post,
+  end-change-reads.Asked,
+  end-change-reads.Learnt,
+) (run-whole-at t) run-whole.Post run-whole-Inv-loop run-whole-μ-loop
+run-whole-cast-row-size-3 t c = search needs
+
+-- src/whole.rt:63:9
+run-whole-row-size-requires-3 : (t : ℕ) → run-whole-lts.Need-row-size-requires-3 (
+  row-size-reads.Asked,
+  row-size-reads.Learnt,
+  start-change-reads.Asked,
+  start-change-reads.Learnt,
+  wrapping-add-u32-reads.Asked,
+  wrapping-add-u32-reads.Learnt,
+  at-end-reads.Asked,
+  at-end-reads.Learnt,
+  step-change-reads.Asked,
+  step-change-reads.Learnt,
+  run-whole-below t,
+  run-whole.Post,
+  end-change-reads.Asked,
+  end-change-reads.Learnt,
+) (run-whole-at t) run-whole.Post run-whole-Inv-loop run-whole-μ-loop
+run-whole-row-size-requires-3 t c κs = search needs
+
+-- src/whole.rt:64:64
+run-whole-cast-end-change : (t : ℕ) → run-whole-lts.Need-cast-end-change (
+  row-size-reads.Asked,
+  row-size-reads.Learnt,
+  start-change-reads.Asked,
+  start-change-reads.Learnt,
+  wrapping-add-u32-reads.Asked,
+  wrapping-add-u32-reads.Learnt,
+  at-end-reads.Asked,
+  at-end-reads.Learnt,
+  step-change-reads.Asked,
+  step-change-reads.Learnt,
+  run-whole-below t,
+  run-whole.Post,
+  end-change-reads.Asked,
+  end-change-reads.Learnt,
+) (run-whole-at t) run-whole.Post run-whole-Inv-loop run-whole-μ-loop
+run-whole-cast-end-change t c = omega (arith, c .before .before .before .before .before .before .before .before .before .before .before .before .before .before .before .before .before .before .before .before .pre .1)
+
+-- src/whole.rt:64:9
+run-whole-end-change-requires : (t : ℕ) → run-whole-lts.Need-end-change-requires (
+  row-size-reads.Asked,
+  row-size-reads.Learnt,
+  start-change-reads.Asked,
+  start-change-reads.Learnt,
+  wrapping-add-u32-reads.Asked,
+  wrapping-add-u32-reads.Learnt,
+  at-end-reads.Asked,
+  at-end-reads.Learnt,
+  step-change-reads.Asked,
+  step-change-reads.Learnt,
+  run-whole-below t,
+  run-whole.Post,
+  end-change-reads.Asked,
+  end-change-reads.Learnt,
+) (run-whole-at t) run-whole.Post run-whole-Inv-loop run-whole-μ-loop
+run-whole-end-change-requires t c κs = search needs
+
+-- src/whole.rt:66:5
+run-whole-mul-next-3 : (t : ℕ) → run-whole-lts.Need-mul-next-3 (
+  row-size-reads.Asked,
+  row-size-reads.Learnt,
+  start-change-reads.Asked,
+  start-change-reads.Learnt,
+  wrapping-add-u32-reads.Asked,
+  wrapping-add-u32-reads.Learnt,
+  at-end-reads.Asked,
+  at-end-reads.Learnt,
+  step-change-reads.Asked,
+  step-change-reads.Learnt,
+  run-whole-below t,
+  run-whole.Post,
+  end-change-reads.Asked,
+  end-change-reads.Learnt,
+) (run-whole-at t) run-whole.Post run-whole-Inv-loop run-whole-μ-loop
+run-whole-mul-next-3 t c = omega (arith, c .before .before .before .before .before .before .before .before .before .before .before .before .before .before .before .before .before .before .before .before .before .before .pre .1)
+
+-- src/whole.rt:66:5
+run-whole-element-set-from-next-3 : (t : ℕ) → run-whole-lts.Need-element-set-from-next-3 (
+  row-size-reads.Asked,
+  row-size-reads.Learnt,
+  start-change-reads.Asked,
+  start-change-reads.Learnt,
+  wrapping-add-u32-reads.Asked,
+  wrapping-add-u32-reads.Learnt,
+  at-end-reads.Asked,
+  at-end-reads.Learnt,
+  step-change-reads.Asked,
+  step-change-reads.Learnt,
+  run-whole-below t,
+  run-whole.Post,
+  end-change-reads.Asked,
+  end-change-reads.Learnt,
+) (run-whole-at t) run-whole.Post run-whole-Inv-loop run-whole-μ-loop
+run-whole-element-set-from-next-3 t c = omega (arith, c .before .before .before .before .before .before .before .before .before .before .before .before .before .before .before .before .before .before .before .before .before .before .pre .1)
+
+-- src/whole.rt:68:15
+run-whole-wrapping-add-u32-requires-5 : (t : ℕ) → run-whole-lts.Need-wrapping-add-u32-requires-5 (
+  row-size-reads.Asked,
+  row-size-reads.Learnt,
+  start-change-reads.Asked,
+  start-change-reads.Learnt,
+  wrapping-add-u32-reads.Asked,
+  wrapping-add-u32-reads.Learnt,
+  at-end-reads.Asked,
+  at-end-reads.Learnt,
+  step-change-reads.Asked,
+  step-change-reads.Learnt,
+  run-whole-below t,
+  run-whole.Post,
+  end-change-reads.Asked,
+  end-change-reads.Learnt,
+) (run-whole-at t) run-whole.Post run-whole-Inv-loop run-whole-μ-loop
+run-whole-wrapping-add-u32-requires-5 t c κs = search needs
+
+-- src/whole.rt:69:16
+run-whole-wrapping-add-u32-requires-6 : (t : ℕ) → run-whole-lts.Need-wrapping-add-u32-requires-6 (
+  row-size-reads.Asked,
+  row-size-reads.Learnt,
+  start-change-reads.Asked,
+  start-change-reads.Learnt,
+  wrapping-add-u32-reads.Asked,
+  wrapping-add-u32-reads.Learnt,
+  at-end-reads.Asked,
+  at-end-reads.Learnt,
+  step-change-reads.Asked,
+  step-change-reads.Learnt,
+  run-whole-below t,
+  run-whole.Post,
+  end-change-reads.Asked,
+  end-change-reads.Learnt,
+) (run-whole-at t) run-whole.Post run-whole-Inv-loop run-whole-μ-loop
+run-whole-wrapping-add-u32-requires-6 t c κs = search needs
+
+-- src/whole.rt:14:1
+run-whole-returns-2 : (t : ℕ) → run-whole-lts.Need-returns-2 (
+  row-size-reads.Asked,
+  row-size-reads.Learnt,
+  start-change-reads.Asked,
+  start-change-reads.Learnt,
+  wrapping-add-u32-reads.Asked,
+  wrapping-add-u32-reads.Learnt,
+  at-end-reads.Asked,
+  at-end-reads.Learnt,
+  step-change-reads.Asked,
+  step-change-reads.Learnt,
+  run-whole-below t,
+  run-whole.Post,
+  end-change-reads.Asked,
+  end-change-reads.Learnt,
+) (run-whole-at t) run-whole.Post run-whole-Inv-loop run-whole-μ-loop
+run-whole-returns-2 t c =
+    let a = c .before .before .before .before .before .before .before .before .before .before .before .before .before .before .before .before .before .before .before .before .before .before .before .before .args in
+    let sizes = length-lowered (λ (v : ℕ). v) (a .t1 .sizes) 32 (c .before .before .before .before .before .before .before .before .before .before .before .before .before .before .before .before .before .before .before .before .before .before .before .before .good .0 .1 .1 .1 .1 .1 .1 .1 .0 .1 .0 .1) in
+    let cells = length-lowered (the-cell .to) (a .t1 .cells) 1024 (c .before .before .before .before .before .before .before .before .before .before .before .before .before .before .before .before .before .before .before .before .before .before .before .before .good .0 .1 .1 .1 .1 .1 .1 .1 .1 .0 .1 .0 .1) in
+    let run = joined (a .t1) (a .progress) (now (a .memory)) (now (a .modes)) (now (a .order)) in
+    let size = c .before .before .before .before .before .before .before .before .before .before .before .before .before .before .before .before .before .before .row-size in
+    let limit = size .result + 1 in
+    let room = enough-steps run (a .task) (c .before .before .before .before .before .before .before .before .before .before .before .before .before .before .before .before .before .before .before .before .before .before .before .before .pre .1) (size .result) (size .ensures .0 ∙ body-size-is (a .t1) (record-of run (a .task) .body) sizes cells) in
+    let change = c .before .before .before .before .before .before .before .before .before .before .before .before .before .before .before .start-change in
+    let calls = c .before .before .before .before .before .before .before .before .before .before .before .before .before .wrapping-add-u32 in
+    let weight = c .before .before .before .before .before .before .before .before .before .before .before .before .wrapping-add-u322 in
+    let from = joined (a .t1) (onward (a .progress) (a .task) (change .result) (calls .result) (weight .result)) (now (a .memory)) (now (a .modes)) (now (a .order)) in
+    let begun = start-joined (a .t1) (a .progress) (now (a .memory)) (now (a .modes)) (now (a .order)) (a .task) (change .result) (calls .result) (weight .result) (calls .ensures) (weight .ensures) (change .ensures) in
+    let l = c .before .before .before .before .before .before .before .before .before .before .before .loop in
+    let r = joined (a .t1) (l .p) (l .memory) (l .modes) (l .order) in
+    let size3 = c .before .before .before .before .before .row-size3 in
+    let ending = c .before .before .before .end-change in
+    let calls3 = c .before .wrapping-add-u325 in
+    let weight3 = c .wrapping-add-u326 in
+    whole-spent (a .bodies) (a .task) run from (c .before .before .before .before .before .before .before .before .before .before .before .before .before .before .before .before .before .before .before .before .before .before .before .if1 .left) limit room begun (l .steps) r (l .inv)
+    (joined (a .t1) (onward (l .p) (a .task) (ending .result) (calls3 .result) (weight3 .result)) (l .memory) (l .modes) (ending .last .0))
+    (end-joined (a .t1) (l .p) (l .memory) (l .modes) (l .order) (a .task) (ending .result) (calls3 .result) (weight3 .result) (calls3 .ensures) (weight3 .ensures) (ending .last .0)
+    (size3 .result) (size3 .ensures .0 ∙ body-size-is (a .t1) (record-of r (a .task) .body) sizes cells) (ending .ensures))
+    (c .before .before .before .before .before .before .before .before .before .before .loop-test .left)
 
 pub +run-whole-spec : {M : Type 1} → statement M
 +run-whole-spec = close μ-run-whole λ t. run-whole-lts.spec (
-  most-steps-reads.Asked,
-  most-steps-reads.Learnt,
-  started-reads.Asked,
-  started-reads.Learnt,
+  row-size-reads.Asked,
+  row-size-reads.Learnt,
+  start-change-reads.Asked,
+  start-change-reads.Learnt,
+  wrapping-add-u32-reads.Asked,
+  wrapping-add-u32-reads.Learnt,
   at-end-reads.Asked,
   at-end-reads.Learnt,
-  ended-reads.Asked,
-  ended-reads.Learnt,
-  place-in-reads.Asked,
-  place-in-reads.Learnt,
-  stepped-reads.Asked,
-  stepped-reads.Learnt,
-  child-at-reads.Asked,
-  child-at-reads.Learnt,
+  step-change-reads.Asked,
+  step-change-reads.Learnt,
   run-whole-below t,
   run-whole.Post,
+  end-change-reads.Asked,
+  end-change-reads.Learnt,
 )
     (run-whole-at t)
     run-whole.Post
     run-whole-Inv-loop
     run-whole-μ-loop
     (run-whole-returns t)
-    (run-whole-most-steps-requires t)
-    (run-whole-started-requires t)
+    (run-whole-mul-own t)
+    (run-whole-element-copy-out-own t)
+    (run-whole-cast-row-size t)
+    (run-whole-row-size-requires t)
+    (run-whole-cast-start-change t)
+    (run-whole-start-change-requires t)
+    (run-whole-mul-next t)
+    (run-whole-element-set-from-next t)
+    (run-whole-wrapping-add-u32-requires t)
+    (run-whole-wrapping-add-u32-requires-2 t)
+    (run-whole-add-steps t)
     (run-whole-loop-holds t)
+    (run-whole-mul-own-2 t)
+    (run-whole-element-copy-out-own-2 t)
+    (run-whole-cast-row-size-2 t)
+    (run-whole-row-size-requires-2 t)
     (run-whole-at-end-requires t)
-    (run-whole-ended-requires t)
-    (run-whole-returns-2 t)
-    (run-whole-place-in-requires t)
-    (run-whole-stepped-requires t)
-    (run-whole-child-at-requires t)
-    (run-whole-sub-left t)
     (run-whole-loop-less t)
     (run-whole-loop-again t)
-    (run-whole-sub-run-whole t)
-    (run-whole-run-whole-requires t)
+    (run-whole-cast-step-change t)
+    (run-whole-step-change-requires t)
+    (run-whole-mul-next-2 t)
+    (run-whole-element-set-from-next-2 t)
+    (run-whole-wrapping-add-u32-requires-3 t)
+    (run-whole-wrapping-add-u32-requires-4 t)
+    (run-whole-sub-steps t)
     (run-whole-loop-less-2 t)
     (run-whole-loop-again-2 t)
-    (run-whole-ended-requires-2 t)
-    (run-whole-returns-3 t)
+    (run-whole-mul-made t)
+    (run-whole-element-set-from-made t)
+    (run-whole-sub-run-whole t)
+    (run-whole-run-whole-requires t)
+    (run-whole-loop-less-3 t)
+    (run-whole-loop-again-3 t)
+    (run-whole-mul-own-3 t)
+    (run-whole-element-copy-out-own-3 t)
+    (run-whole-cast-row-size-3 t)
+    (run-whole-row-size-requires-3 t)
+    (run-whole-cast-end-change t)
+    (run-whole-end-change-requires t)
+    (run-whole-mul-next-3 t)
+    (run-whole-element-set-from-next-3 t)
+    (run-whole-wrapping-add-u32-requires-5 t)
+    (run-whole-wrapping-add-u32-requires-6 t)
+    (run-whole-returns-2 t)

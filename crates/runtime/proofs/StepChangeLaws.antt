@@ -1,0 +1,187 @@
+-- The change that a step comes to, by what was found of the task and its instruction. Assumes nothing.
+use Prim.Native.Nat.{ℕ, _+_, _%_, _^_, _≤_, _<_}
+use mathlib.Core.Path.{_≡_, refl, sym, ap, subst, _∙_}
+use mathlib.Core.List.{List}
+use native.Mathlib.Omega.{arith}
+use native.Mathlib.Decide.{decLt}
+use lib.ListN.{length, getD, set}
+use Rattle.tasklist.specs.declared.Instruction.{Instruction}
+use Rattle.tasklist.specs.declared.Tables.{Tables}
+use Rattle.tasklist.specs.Encode.{instruction-fields}
+use Rattle.tasklist.specs.TaskList.{body-of, instruction-of}
+use Rattle.tasklist.specs.Tables.{list-of}
+use Rattle.semantics.specs.declared.Record.{Record}
+use Rattle.semantics.specs.declared.CallRefusal.{CallRefusal}
+use Rattle.semantics.specs.declared.CallRefusal.the-variants.{Blocked}
+use Rattle.semantics.specs.declared.Answer.the-variants as Answers
+use Rattle.semantics.specs.Run.{context, weight-of}
+use Rattle.semantics.specs.Plan.{step}
+use Rattle.semantics.specs.Call.{refuse}
+use Rattle.semantics.specs.Answers.{refusal-number}
+use Rattle.semantics.proofs.Bounds.{fixed-light}
+use Rattle.runtime.specs.declared.Run.{Run}
+use Rattle.runtime.specs.declared.Called.{Called}
+use Rattle.runtime.specs.declared.Change.{Change}
+use Rattle.runtime.specs.declared.Located.the-variants.{Refused, At}
+use Rattle.runtime.specs.declared.StepPlan.{StepPlan}
+use Rattle.runtime.specs.declared.StepPlan.the-variants as Planned
+use Rattle.runtime.specs.View.{SoundRun}
+use Rattle.runtime.specs.Calls.{decided, CalledAs}
+use Rattle.runtime.specs.Parts.{Placed, record-of}
+use Rattle.runtime.specs.Steps.{planned, passed, failed, holding, PlansIn}
+use Rattle.runtime.specs.Changes.{with-parts, finished, kept, counted, put, with-task, ChangeOf, ReadyIn, SpawnedBy, SteppedBy}
+use Rattle.runtime.proofs.CallLaws.{called-refused}
+use Rattle.runtime.proofs.StepLaws.{step-settled}
+use Rattle.runtime.proofs.ChangeLaws.{step-refused, step-held, step-fault, step-assign, step-pass, step-store, step-spawn, ends}
+
+module _ (tables : Tables) (memory modes order : List ℕ) (left : ℕ) (own : Record) (n : ℕ) where
+  -- a run with the parts
+  abbrev from : Run → Run
+  from run = with-parts tables memory modes order left run
+
+  abbrev Stepped : List ℕ → List ℕ → List ℕ → Change → Type 0
+  Stepped memory′ modes′ order′ c = SteppedBy tables memory modes order memory′ modes′ order′ left own n c
+
+  -- the task stands at this place, and its step comes to this plan, under weight w
+  pub record StepsBy (place w : ℕ) (p : StepPlan) : Type 0 where
+    pub below : n < 128
+    pub light : w ≤ 8
+    pub decides :
+        (run : Run) → record-of run n ≡ own → SoundRun (from run)
+        → Placed (from run) n place × (decided (from run) step n ≡ planned (from run) n w p)
+
+  module _ (size : ℕ) (fits : size ≡ length (body-of (list-of tables) (own .body))) where
+    pub change-before :
+        (k : CallRefusal) → ReadyIn order left own size n (Refused k) → (c : Change) → c ≡ kept own left k
+        → Stepped memory modes order c
+    change-before k ready c e = λ run same. step-refused (from run) n own same k (ready (from run) same fits) c e
+
+    pub steps-by :
+        (place : ℕ) → ReadyIn order left own size n (At place) → (i : Instruction)
+        → i ≡ instruction-of (list-of tables) (own .body) (own .pc) → (code : ℕ) → code ≡ getD (instruction-fields i) 0 0
+        → (p : StepPlan) → PlansIn order modes memory (own .registers) n place i p
+        → StepsBy place (weight-of (context (list-of tables)) (code + 2)) p
+    steps-by place ready i at code is p plans =
+        record {
+          below = ready .0;
+          light = fixed-light (list-of tables) (code + 2);
+          decides =
+              λ run same s. (
+                ready .3 (from run) s,
+                step-settled (from run) n (ready .0) s place (ready .3 (from run) s) (ap (λ (t : Record). t .state) same ∙ ready .1)
+                    (finished size own) (ends (from run) n size own (ready .0) same fits s) (ready .2) i code
+                    (at ∙ sym (ap (λ (t : Record). instruction-of (list-of tables) (t .body) (t .pc)) same)) is p
+                    (plans (from run) refl (ap (λ (t : Record). t .registers) same)),
+              );
+        }
+
+  -- plan by plan
+  module _ (place w : ℕ) (p : StepPlan) (b : StepsBy place w p) where
+    pub change-held :
+        p ≡ Planned.Held → (c : Change) → c ≡ kept own left Blocked
+        → Stepped memory modes order c
+    change-held q c e =
+        λ run same. step-held (from run) n own same place w (b .light) (b .below) p (b .decides run same) q c e
+
+    decides-as :
+        (x : StepPlan) → p ≡ x → (run : Run) → record-of run n ≡ own → SoundRun (from run)
+        → Placed (from run) n place × (decided (from run) step n ≡ planned (from run) n w x)
+    decides-as x q = subst (StepsBy place w) q b .decides
+
+    pub change-fault :
+        (k : ℕ) → p ≡ Planned.Fault k → (t : Record) → t ≡ failed k own → (c : Change) → c ≡ counted t left w
+        → Stepped memory modes order c
+    change-fault k q t f c e =
+        λ run same.
+        step-fault (from run) n own same place w (b .light) (b .below) k (decides-as (Planned.Fault k) q run same) c
+        (e ∙ ap (λ x. counted x left w) f)
+
+    pub change-assign :
+        (a v : ℕ) → p ≡ Planned.Assign a v → (s t : Record) → s ≡ passed 0 own → t ≡ holding a v s → (c : Change)
+        → c ≡ counted t left w → Stepped memory modes order c
+    change-assign a v q s t f g c e =
+        λ run same.
+        step-assign (from run) n own same place w (b .light) (b .below) a v (decides-as (Planned.Assign a v) q run same) c
+        (e ∙ ap (λ x. counted x left w) (g ∙ ap (holding a v) f))
+
+    pub change-pass :
+        (k : ℕ) → k < 256 → p ≡ Planned.Pass k → (t : Record) → t ≡ passed k own → (c : Change) → c ≡ counted t left w
+        → Stepped memory modes order c
+    change-pass k small q t f c e =
+        λ run same.
+        step-pass (from run) n own same place w (b .light) (b .below) k small (decides-as (Planned.Pass k) q run same) c
+        (e ∙ ap (λ x. counted x left w) f)
+
+    pub change-store :
+        (a v : ℕ) → p ≡ Planned.Store a v → (t : Record) → t ≡ passed 0 own → (m : List ℕ) → (length memory ≡ 64 → m ≡ set memory a v) → (c : Change)
+        → c ≡ counted t left w → Stepped m modes order c
+    change-store a v q t f m g c e =
+        λ run same.
+        step-store (from run) n own same place w (b .light) (b .below) a v m g (decides-as (Planned.Store a v) q run same) c
+        (e ∙ ap (λ x. counted x left w) f)
+
+    pub change-spawn :
+        (s f : ℕ) → p ≡ Planned.Spawn s f → (modes′ order′ : List ℕ) (c : Change)
+        → SpawnedBy tables modes order modes′ order′ left own n place s f w c
+        → Stepped memory modes′ order′ c
+    change-spawn s f q modes′ order′ c h =
+        λ run same.
+        step-spawn (from run) n own same place w (b .light) (b .below) s f (with-parts tables memory modes′ order′ left run) c
+        (decides-as (Planned.Spawn s f) q run same) (h (from run) same .0) (h (from run) same .1) (h (from run) same .2)
+
+-- The change put into the run.
+module _
+    (run : Run) (n : ℕ) (memory modes order : List ℕ) (c : Change)
+    (h : SteppedBy (run .tables) (run .memory) (run .modes) (run .order) memory modes order (run .left) (record-of run n) n c)
+  where
+    abbrev lent : Run
+    lent = with-parts (run .tables) memory modes order (run .left) run
+
+    pub stepped-refused :
+        (k : CallRefusal) → c .answer ≡ Answers.Refused k → CalledAs step run n (record { answer = Answers.Refused k; run = run })
+    stepped-refused k q = called-refused step run n k (by-child (decLt 127 (c .child)))
+      where
+        by-child : Dec (127 < c .child) → SoundRun run → decided run step n ≡ refuse (refusal-number k)
+        by-child (yes far) = subst (ChangeOf step n run (put n c lent)) q (h run refl .0 .0 far) .0
+        by-child (no near) =
+            subst (ChangeOf step n run (with-task (c .child) (c .made) (put n c lent))) q (h run refl .0 .1 (omega arith)) .0
+
+    -- accepted, with the counters as they were added up
+    module _
+        (q : c .answer ≡ Answers.Accepted) (calls weight : ℕ) (cs : calls ≡ (run .calls + c .calls) % 2 ^ 32)
+        (ws : weight ≡ (run .weight + c .weight) % 2 ^ 32)
+      where
+        abbrev next : List Record → ℕ → ℕ → Called
+        next records k w =
+            record {
+              answer = Answers.Accepted;
+              run =
+                  record {
+                    tables = run .tables;
+                    memory = memory;
+                    records = records;
+                    modes = modes;
+                    order = order;
+                    left = c .left;
+                    calls = k;
+                    weight = w;
+                  };
+            }
+
+        added :
+            (records : List Record)
+            → CalledAs step run n (next records ((run .calls + c .calls) % 2 ^ 32) ((run .weight + c .weight) % 2 ^ 32))
+            → CalledAs step run n (next records calls weight)
+        added records done =
+            subst (λ k. CalledAs step run n (next records k weight)) (sym cs)
+            (subst (λ w. CalledAs step run n (next records ((run .calls + c .calls) % 2 ^ 32) w)) (sym ws) done)
+
+        pub stepped-alone : 127 < c .child → CalledAs step run n (next (set (run .records) n (c .own)) calls weight)
+        stepped-alone far =
+            added (set (run .records) n (c .own)) (subst (ChangeOf step n run (put n c lent)) q (h run refl .0 .0 far))
+
+        pub stepped-making :
+            c .child ≤ 127 → CalledAs step run n (next (set (set (run .records) n (c .own)) (c .child) (c .made)) calls weight)
+        stepped-making near =
+            added (set (set (run .records) n (c .own)) (c .child) (c .made))
+            (subst (ChangeOf step n run (with-task (c .child) (c .made) (put n c lent))) q (h run refl .0 .1 near))

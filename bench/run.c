@@ -146,7 +146,7 @@ static void inputs(void) {
 static int same(const uint8_t *list, size_t length) {
     uint32_t count = preview_check(list, length);
     if (fast_check(list, length) != count) return 0;
-    size_t entries = length > 2 && list[2] <= 64 ? list[2] : 1;
+    size_t entries = length > 2 && list[2] <= 64 ? list[2] : 1; // an empty list has 1
     uint32_t numbers[64];
     uint8_t library[256], result[256];
     for (size_t i = 0; i < entries; i++) numbers[i] = drawn(8) ? drawn(64) : drawn(1u << 31);
@@ -164,7 +164,7 @@ static int same(const uint8_t *list, size_t length) {
 
 static void compare(int n, char **names) {
     static uint8_t bytes[1 << 16];
-    int accepted = 0;
+    int accepted = 0, empty = 0;
     for (int i = 0; i < n; i++) {
         FILE *file = fopen(names[i], "rb");
         if (!file) fail(names[i]);
@@ -172,8 +172,9 @@ static void compare(int n, char **names) {
         fclose(file);
         if (!same(bytes, length)) fail(names[i]);
         if (fast_check(bytes, length) <= 128) accepted++;
+        if (length == 0) empty++;
     }
-    printf("%d lists, %d of them accepted: the fast check and hand run give what the proved ones give\n", n, accepted);
+    printf("%d lists, %d of them accepted, %d empty: the fast check and hand run give what the proved ones give\n", n, accepted, empty);
 }
 
 // ---- times

@@ -138,8 +138,17 @@ pub fn read(list: &[u8], mut keep: impl FnMut(bool, usize, u16, u8)) -> Result<u
     Ok(total)
 }
 
-pub fn check(list: &[u8]) -> u32 {
-    match read(list, |_, _, _, _| {}) {
+/// "A file of no bytes shall now mean C = 1, no footprints, and one empty sheet."
+pub fn records(file: &[u8]) -> &[u8] {
+    if file.is_empty() {
+        &[0x4A, 0x48, 1, 0, 1, 0x4A, 0x42, 0]
+    } else {
+        file
+    }
+}
+
+pub fn check(file: &[u8]) -> u32 {
+    match read(records(file), |_, _, _, _| {}) {
         Ok(count) => count,
         Err(refusal) => 128 + refusal,
     }

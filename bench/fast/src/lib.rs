@@ -1,5 +1,5 @@
 //! Check and hand run in plain Rust, written for speed: one pass over the bytes, no allocation, the run changed in place.
-//! The benchmark measures the proved functions against these. Quoted words are document 01's.
+//! The benchmark measures the proved functions against these. Quoted words are document 01's and 02's.
 
 mod check;
 mod run;

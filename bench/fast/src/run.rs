@@ -1,7 +1,7 @@
 //! The hand run, in place. "at each spawn the child is run whole before the next step": no task is ever ahead of the one
 //! that makes a call, so no call waits, and the order needs no table.
 
-use crate::check::{index, word, Index};
+use crate::check::{index, records, word, Index};
 
 #[derive(Clone, Copy)]
 pub struct Record {
@@ -43,7 +43,8 @@ struct Job<'a> {
     locations: usize,
 }
 
-pub fn hand_run(list: &[u8], memory: &[u32], run: &mut Run) -> u32 {
+pub fn hand_run(file: &[u8], memory: &[u32], run: &mut Run) -> u32 {
+    let list = records(file);
     let index = match index(list) {
         Ok(index) => index,
         Err(refusal) => return 128 + refusal,

@@ -7,10 +7,10 @@ use std::process::{Child, Command, Stdio};
 use std::sync::mpsc;
 use std::time::Duration;
 
-use second::cases::{damaged_list, hex, run_case};
+use second::cases::{damaged_list, hex, library_bytes, run_case};
 use second::named::longest_list;
 use second::rng::Rng;
-use second::transcript;
+use second::{empty_list, encode, files_transcript};
 
 use crate::refusal_words;
 use crate::shrink::{less_entries, shrink, smaller_bytes, smaller_lists};
@@ -25,12 +25,16 @@ pub enum File {
 }
 
 impl File {
-    /// "an unreadable file counts as empty"
-    fn bytes(&self) -> &[u8] {
+    /// None where it can't be read.
+    fn read(&self) -> Option<&[u8]> {
         match self {
-            File::Bytes(bytes) => bytes,
-            _ => &[],
+            File::Bytes(bytes) => Some(bytes),
+            _ => None,
         }
+    }
+
+    fn bytes(&self) -> &[u8] {
+        self.read().unwrap_or(&[])
     }
 
     fn words(&self) -> String {
@@ -53,13 +57,43 @@ pub struct Case {
 
 /// What the coordinator is to print.
 pub fn expected(case: &Case) -> String {
-    transcript(case.jobs.bytes(), case.library.bytes(), &case.input)
+    files_transcript(case.jobs.read(), case.library.read(), &case.input)
 }
 
 // ---------------------------------------------------------------------------------------------
 // Cases
 
-pub fn random_case(rng: &mut Rng) -> Case {
+/// Cases without end: files that are empty, of the marked records or can't be read, then random ones.
+pub fn cases(seed: u64) -> impl Iterator<Item = Case> {
+    let mut rng = Rng::new(seed);
+    empty_cases()
+        .into_iter()
+        .chain(std::iter::repeat_with(move || random_case(&mut rng)))
+}
+
+/// The empty list in both its forms and a jobs.bin that can't be read, each with libraries of every kind:
+/// one that fits, of other lengths, and one that can't be read.
+fn empty_cases() -> Vec<Case> {
+    let numbers = library_bytes(&[5, 7]);
+    let marked = encode(&empty_list());
+    let lists = [File::Bytes(Vec::new()), File::Bytes(marked)];
+    let unreadable = [File::Missing, File::Folder];
+    let libraries = [4, 0, 3, 5, 8].map(|length| File::Bytes(numbers[..length].to_vec()));
+    let mut cases = Vec::new();
+    for jobs in lists.iter().chain(&unreadable) {
+        for library in libraries.iter().chain(&unreadable) {
+            cases.push(Case {
+                jobs: jobs.clone(),
+                library: library.clone(),
+                input: vec![1, 0, 0, 0, 2, 0, 0, 0, 3, 0, 2],
+                pieces: Vec::new(),
+            });
+        }
+    }
+    cases
+}
+
+fn random_case(rng: &mut Rng) -> Case {
     let (mut jobs, mut library, mut input) = run_case(rng);
     // A refused list, or a library of a wrong length.
     match rng.below(60) {
@@ -239,6 +273,8 @@ pub struct Met {
     /// Failed opens, by refusal.
     pub refused: [u64; 9],
     pub unreadable: u64,
+    /// With a jobs.bin of no bytes.
+    pub empty: u64,
     pub in_pieces: u64,
     pub half_calls: u64,
     /// Lines of calls, and those among them that are not 0.
@@ -253,8 +289,9 @@ pub struct Met {
 impl Met {
     fn count(&mut self, case: &Case, text: &str) {
         self.transcripts += 1;
-        let readable = |file: &File| matches!(file, File::Bytes(_));
-        self.unreadable += (!readable(&case.jobs) || !readable(&case.library)) as u64;
+        let files = [case.jobs.read(), case.library.read()];
+        self.unreadable += files.contains(&None) as u64;
+        self.empty += (files[0] == Some(&[])) as u64;
         self.in_pieces += !case.pieces.is_empty() as u64;
         if let Some(refusal) = text.strip_prefix("refused ") {
             let refusal: usize = refusal.trim_end().parse().expect("a number");
@@ -272,7 +309,7 @@ impl Met {
     pub fn words(&self) -> String {
         format!(
             "{} opened, {} to the end, {} calls with {} refused ones, {} half calls, {} inputs in \
-             pieces, {} with an unreadable file; opens refused: {}",
+             pieces, {} with an unreadable file, {} with an empty list; opens refused: {}",
             self.transcripts as u64 - self.refused.iter().sum::<u64>(),
             self.to_the_end,
             self.calls,
@@ -280,6 +317,7 @@ impl Met {
             self.half_calls,
             self.in_pieces,
             self.unreadable,
+            self.empty,
             refusal_words(&self.refused)
         )
     }
@@ -294,10 +332,11 @@ fn differ(prints: Prints, case: &Case) -> bool {
 
 /// Compares `count` transcripts; after the first few that differ it stops.
 pub fn compare(prints: Prints, count: usize, seed: u64, time: Duration) -> Met {
-    let mut rng = Rng::new(seed);
     let mut met = Met::default();
-    while met.transcripts < count && met.different < 20 {
-        let case = random_case(&mut rng);
+    for case in cases(seed).take(count) {
+        if met.different == 20 {
+            break;
+        }
         met.count(&case, &expected(&case));
         if differ(prints, &case) {
             met.different += 1;
@@ -401,6 +440,7 @@ mod tests {
         ] {
             assert!(count > 20, "{}", met.words());
         }
+        assert!(met.empty > 10, "{}", met.words());
     }
 
     /// The smallest case found, in words.
@@ -457,5 +497,28 @@ mod tests {
         };
         let text = found(&missing);
         assert!(text.contains("library.bin missing\n"), "{text}");
+    }
+
+    #[test]
+    fn mismatches_on_empty_lists_are_found() {
+        // An empty jobs.bin is refused.
+        let refused = |case: &Case| match case.jobs.read() {
+            Some([]) => Ok(b"refused 1\n".to_vec()),
+            _ => right(case),
+        };
+        let text = found(&refused);
+        assert!(text.contains("jobs.bin \nlibrary.bin \n"), "{text}");
+        assert!(text.contains("second: refused 8\n"), "{text}");
+        // A jobs.bin that can't be read is taken for an empty one.
+        let unread = |case: &Case| {
+            let mut case = case.clone();
+            if case.jobs.read().is_none() {
+                case.jobs = File::Bytes(Vec::new());
+            }
+            right(&case)
+        };
+        let text = found(&unread);
+        assert!(text.contains("jobs.bin missing\n"), "{text}");
+        assert!(text.contains("second: refused 1\n"), "{text}");
     }
 }

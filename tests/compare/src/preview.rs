@@ -201,8 +201,9 @@ fn all_alterations_of_p() -> impl Iterator<Item = Lent> {
     })
 }
 
-/// Lists without end: some for each answer, then P altered in every way, then some lists cut and
-/// altered at each place, the longest among them, then random ones, valid and damaged.
+/// Lists without end: some for each answer, empty ones among them, then P altered in every way, then
+/// some lists cut and altered at each place, the longest among them, then random ones, valid and
+/// damaged.
 pub fn lists(seed: u64) -> impl Iterator<Item = Lent> {
     let mut rng = Rng::new(seed);
     let mut lists = Vec::new();
@@ -210,6 +211,7 @@ pub fn lists(seed: u64) -> impl Iterator<Item = Lent> {
         lists.push(whole(match i % 12 {
             0 => rng.pick(&[&EXAMPLE_P[..], &deepest_list()]).to_vec(),
             refusal @ 1..=7 => damaged_list(&mut rng, refusal),
+            8 => Vec::new(),
             _ => encode(&random_list(&mut rng)),
         }));
     }
@@ -289,6 +291,8 @@ fn case_of(rng: &mut Rng, list: Lent) -> Case {
 #[derive(Clone, Debug, Default)]
 pub struct Met {
     pub lists: usize,
+    /// Lists of no bytes that the hand run accepts.
+    pub empty: u64,
     pub check: [u64; 18],
     pub hand_run: [u64; 18],
     /// On how many the two differ, and the smallest case found.
@@ -297,8 +301,9 @@ pub struct Met {
 }
 
 impl Met {
-    fn count(&mut self, answers: &Answers) {
+    fn count(&mut self, case: &Case, answers: &Answers) {
         self.lists += 1;
+        self.empty += (case.list.bytes.is_empty() && answers.hand_run == 0) as u64;
         self.check[answers.check.saturating_sub(128) as usize] += 1;
         self.hand_run[answers.hand_run.saturating_sub(128) as usize] += 1;
     }
@@ -316,10 +321,11 @@ impl Met {
 
     pub fn words(&self) -> String {
         format!(
-            "check accepts {}, refuses {}; the hand run accepts {}, refuses {}",
+            "check accepts {}, refuses {}; the hand run accepts {} ({} of no bytes), refuses {}",
             self.check[0],
             refusal_words_of(&self.check),
             self.hand_run[0],
+            self.empty,
             refusal_words_of(&self.hand_run)
         )
     }
@@ -339,7 +345,7 @@ pub fn compare(functions: &Functions, count: usize, seed: u64) -> Met {
     for list in lists(seed).take(count) {
         let case = case_of(&mut rng, list);
         let expected = answers_of_second(&case);
-        met.count(&expected);
+        met.count(&case, &expected);
         if answers_of(functions, &case) != expected {
             met.different += 1;
             let smallest = met.smallest.as_ref();
@@ -471,6 +477,13 @@ mod tests {
         }
     }
 
+    unsafe extern "C" fn check_refuses_no_bytes(list: *const u8, list_len: usize) -> u32 {
+        match list_len {
+            0 => 129,
+            _ => check(list, list_len),
+        }
+    }
+
     unsafe extern "C" fn check_accepts_129_jobs(list: *const u8, list_len: usize) -> u32 {
         match check(list, list_len) {
             135 => 128,
@@ -547,7 +560,7 @@ mod tests {
         let met = compare(&Functions { check, hand_run }, 3000, 1);
         assert_eq!((met.lists, met.different), (3000, 0));
         assert!(met.missing().is_empty(), "{}", met.words());
-        assert!(met.check[0] > 100 && met.hand_run[0] > 100);
+        assert!(met.check[0] > 100 && met.hand_run[0] > 100 && met.empty > 10);
     }
 
     #[test]
@@ -556,6 +569,7 @@ mod tests {
         let with_hand_run = |hand_run: HandRun| Functions { check, hand_run };
         for (functions, most, words) in [
             (with_check(check_accepts_129_jobs), 100, "check 128, "),
+            (with_check(check_refuses_no_bytes), 0, "second: check 1, "),
             (with_check(check_writes), 31, "spoiled: list of check"),
             (
                 with_hand_run(writes_behind),

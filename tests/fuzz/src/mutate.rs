@@ -66,10 +66,12 @@ fn change_library(rng: &mut Rng, parts: &mut Parts) {
 // Lists
 
 /// A changed list of at most `most` bytes: in `percent` of the cases by its fields, else by the fuzzer; rarely, and in half the
-/// cases where it has no fields to change, another list.
+/// cases where it has no fields to change, another list; rarely no bytes.
 fn changed_list(rng: &mut Rng, bytes: &[u8], most: usize, percent: usize) -> Vec<u8> {
-    if rng.percent(1) {
-        return list_case(rng);
+    match rng.below(200) {
+        0 => return Vec::new(),
+        1 | 2 => return list_case(rng),
+        _ => {}
     }
     if !rng.percent(percent) {
         return fuzzer_mutation(bytes, most);

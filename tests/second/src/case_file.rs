@@ -122,8 +122,8 @@ pub fn cases_output(cases: &[Case]) -> String {
             Ok(_) => text.push_str("record 128\n"),
             Err(refusal) => text.push_str(&format!("record 128 refused {refusal}\n")),
         }
-        writer_line(&mut text, "write", &run, LONGEST);
-        writer_line(&mut text, "short", &run, case.list.len() - 1);
+        let written = writer_line(&mut text, "write", &run, LONGEST);
+        writer_line(&mut text, "short", &run, written - 1);
         let hand = hand_run(&case.list, &case.library).expect("open has accepted the same");
         text.push_str(&format!("hand {}\n", totals(&hand)));
         text.push_str(&format!("hand entries{}\n", words(&hand.memory)));
@@ -169,8 +169,8 @@ fn queue_line(text: &mut String, word: &str, run: &Run, location: usize, room: u
     written
 }
 
-/// One call of the writer into a slice of `room` places.
-fn writer_line(text: &mut String, word: &str, run: &Run, room: usize) {
+/// One call of the writer into a slice of `room` places; how many it wrote.
+fn writer_line(text: &mut String, word: &str, run: &Run, room: usize) -> usize {
     let mut places = vec![WRITER_FILL; room];
     let answer = write(&run.list, &mut places);
     let written = answer.unwrap_or(0);
@@ -179,6 +179,7 @@ fn writer_line(text: &mut String, word: &str, run: &Run, room: usize) {
         Err(refusal) => text.push_str(&format!("{word} refused {refusal}\n")),
     }
     spoiled_line(text, &places[written..], WRITER_FILL);
+    written
 }
 
 /// The line `spoiled`, where a place that was not to be written no longer holds its filling.

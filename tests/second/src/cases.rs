@@ -2,8 +2,8 @@
 
 use crate::coordinator::{call, open_files};
 use crate::list::{
-    check, encode, encode_instruction, task_count, task_counts, Instruction, Line, TaskList,
-    COUNT_CAP,
+    check, decode, encode, encode_instruction, task_count, task_counts, Instruction, Line,
+    TaskList, COUNT_CAP,
 };
 use crate::rng::Rng;
 use crate::run::{at_its_end, test_end, test_start, test_step, Run, NONE, READ, WAITING, WRITE};
@@ -136,6 +136,20 @@ pub fn random_shape(rng: &mut Rng) -> Shape {
 pub fn random_list(rng: &mut Rng) -> TaskList {
     let shape = random_shape(rng);
     list_of_shape(rng, &shape)
+}
+
+/// The bytes of an accepted list, in 2 of 100 cases none (#101).
+pub fn accepted_file(rng: &mut Rng) -> Vec<u8> {
+    if rng.percent(2) {
+        return Vec::new();
+    }
+    encode(&random_list(rng))
+}
+
+/// The library that fits an accepted file, drawn at random.
+pub fn fitting_library(rng: &mut Rng, file: &[u8]) -> Vec<u32> {
+    let list = decode(file).expect("an accepted file");
+    random_library(rng, list.locations)
 }
 
 /// A list of this shape. It is accepted when the shape's numbers are in range.
@@ -614,7 +628,8 @@ pub fn damaged_list(rng: &mut Rng, refusal: u32) -> Vec<u8> {
     match refusal {
         1 => {
             let bytes = encode(&random_list(rng));
-            bytes[..rng.below(bytes.len())].to_vec()
+            // At least one byte: the empty file is accepted.
+            bytes[..rng.between(1, bytes.len() - 1)].to_vec()
         }
         6 => {
             // 6 comes before 7.
@@ -796,7 +811,7 @@ fn bad_instruction(rng: &mut Rng, list: &TaskList, body: usize, pc: usize) -> [u
 /// The bytes of a list, accepted or not: every kind of case for the list layer.
 pub fn list_case(rng: &mut Rng) -> Vec<u8> {
     match rng.below(20) {
-        0..=5 => encode(&random_list(rng)),
+        0..=5 => accepted_file(rng),
         6..=9 => {
             let bytes = encode(&random_list(rng));
             let place = rng.below(bytes.len());
@@ -832,7 +847,7 @@ pub fn list_case(rng: &mut Rng) -> Vec<u8> {
     }
 }
 
-/// One line of list-cases: the list in hexadecimal (nothing for the empty list), a space, the answer.
+/// One line of list-cases: the list in hexadecimal (nothing for the empty file), a space, the answer.
 pub fn list_case_line(bytes: &[u8]) -> String {
     match check(bytes) {
         Ok(count) => format!("{} ok {count}", hex(bytes)),
@@ -1025,12 +1040,11 @@ pub fn random_input(rng: &mut Rng, jobs: &[u8], library_bytes: &[u8]) -> Vec<u8>
 
 /// The three inputs of a case for the coordinator: jobs.bin, library.bin, standard input.
 pub fn run_case(rng: &mut Rng) -> (Vec<u8>, Vec<u8>, Vec<u8>) {
-    let list = random_list(rng);
-    let mut jobs = encode(&list);
+    let mut jobs = accepted_file(rng);
+    let mut library = library_bytes(&fitting_library(rng, &jobs));
     if rng.percent(3) {
         jobs = list_case(rng);
     }
-    let mut library = library_bytes(&random_library(rng, list.locations));
     if rng.percent(3) {
         match rng.below(3) {
             0 => library.push(0),

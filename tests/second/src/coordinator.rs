@@ -1,6 +1,6 @@
 //! What the coordinator prints, and the two functions that the editor's preview uses.
 
-use crate::list::{check, decode, SLICE_TOO_SHORT};
+use crate::list::{check, decode, NOT_WHOLE, SLICE_TOO_SHORT};
 use crate::run::{end, hand_run, open, start, step, Run, LIBRARY_LENGTH};
 
 /// "another kind, or half a call: 18"
@@ -36,11 +36,12 @@ pub fn call(run: &mut Run, kind: u8, task: u32) -> Result<(), u32> {
 }
 
 /// "A failed open prints one line, as `refused 1`. Else one line per call, 0 or the refusal (another
-/// kind, or half a call: 18); each entry on a line; last calls, weight and jobs left."
+/// kind, or half a call: 18); each entry on a line; last calls, weight and jobs left." On files that
+/// are read.
 pub fn transcript(jobs: &[u8], library_bytes: &[u8], input: &[u8]) -> String {
     let mut run = match open_files(jobs, library_bytes) {
         Ok(run) => run,
-        Err(refusal) => return format!("refused {refusal}\n"),
+        Err(refusal) => return refused_line(refusal),
     };
     let mut text = String::new();
     for bytes in input.chunks(2) {
@@ -64,6 +65,20 @@ pub fn transcript(jobs: &[u8], library_bytes: &[u8], input: &[u8]) -> String {
         run.order.len()
     ));
     text
+}
+
+/// The transcript of the two files, `None` where one can't be read. #101: "The coordinator still
+/// prints `refused 1` where jobs.bin can't be read." Of library.bin: "an unreadable file counts as
+/// empty".
+pub fn files_transcript(jobs: Option<&[u8]>, library: Option<&[u8]>, input: &[u8]) -> String {
+    match jobs {
+        Some(jobs) => transcript(jobs, library.unwrap_or(&[]), input),
+        None => refused_line(NOT_WHOLE),
+    }
+}
+
+fn refused_line(refusal: u32) -> String {
+    format!("refused {refusal}\n")
 }
 
 /// "Over that C boundary check still gives count(0), ... and a refusal is 128 plus its number."

@@ -1,6 +1,7 @@
 //! The second implementation of the task runtime, for comparison with the first.
-//! It is written from document 01 alone, literally and slowly: one function per sentence, each
-//! sentence named in a comment. Quoted words are document 01's.
+//! It is written from document 01 and the requests of document 02 alone, literally and slowly: one
+//! function per sentence, each sentence named in a comment. Quoted words are document 01's, behind #
+//! and a number document 02's.
 //! Document 01's words and the names here: job = task, entry = location, entries = memory,
 //! sheet = body, place = pc, mark = tag, instructions done = steps, held back = blocked.
 //! A refusal is document 01's number, as `Err(number)`.
@@ -13,6 +14,6 @@ pub mod named;
 pub mod rng;
 pub mod run;
 
-pub use coordinator::{preview_check, preview_hand_run, transcript};
-pub use list::{check, decode, encode, write, Instruction, Line, TaskList};
+pub use coordinator::{files_transcript, preview_check, preview_hand_run, transcript};
+pub use list::{check, decode, empty_list, encode, write, Instruction, Line, TaskList};
 pub use run::{end, hand_run, open, queue, record, start, step, Record, Run};

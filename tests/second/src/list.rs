@@ -119,8 +119,20 @@ pub fn decode(bytes: &[u8]) -> Result<TaskList, u32> {
     Ok(list)
 }
 
+/// #101: "A file of no bytes shall now mean C = 1, no footprints, and one empty sheet."
+pub fn empty_list() -> TaskList {
+    TaskList {
+        locations: 1,
+        footprints: Vec::new(),
+        bodies: vec![Vec::new()],
+    }
+}
+
 /// "A job list is a file of records": decode, but for 7.
 pub fn decode_records(bytes: &[u8]) -> Result<TaskList, u32> {
+    if bytes.is_empty() {
+        return Ok(empty_list());
+    }
     let mut reader = Reader { bytes, taken: 0 };
     // "Head: 4A 48, then entries C (1 to 64), footprints (0 to 32), sheets (1 to 32)."
     reader.take_tag(HEAD_TAG)?;
@@ -272,7 +284,8 @@ pub fn task_count(list: &TaskList, s: usize) -> u64 {
     task_counts(list)[s]
 }
 
-/// "The writer gives the accepted list's own bytes."
+/// "The writer gives the accepted list's own bytes." #101, of the file of no bytes: "The writer still
+/// gives the marked records for it".
 pub fn encode(list: &TaskList) -> Vec<u8> {
     let mut bytes = Vec::new();
     bytes.extend(HEAD_TAG);

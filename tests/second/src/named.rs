@@ -2,11 +2,11 @@
 
 use crate::case_file::Case;
 use crate::cases::{
-    any_call, doubling_list, list_case, next_call, random_library, random_list, sensible_call,
+    accepted_file, any_call, doubling_list, fitting_library, list_case, next_call, sensible_call,
     Strategy, EXAMPLE_P, STRATEGIES,
 };
 use crate::coordinator::call;
-use crate::list::{encode, task_count, Instruction, Line, TaskList};
+use crate::list::{decode, encode, task_count, Instruction, Line, TaskList};
 use crate::rng::Rng;
 use crate::run::open;
 
@@ -82,6 +82,7 @@ fn whole(list: &[u8], library: &[u32]) -> Case {
 pub fn named_cases() -> Vec<Case> {
     let mut cases = Vec::new();
     cases.extend(orders_of_p());
+    cases.extend(empty_files());
     cases.extend(readers_and_writers());
     cases.extend(faults());
     cases.extend(large_numbers());
@@ -124,6 +125,24 @@ fn orders_of_p() -> Vec<Case> {
         cases.push(case(&EXAMPLE_P, library, "start 0"));
     }
     cases
+}
+
+/// Files of no bytes: C = 1 and one empty sheet, with libraries that fit and that don't; then such of
+/// one byte, which are refused.
+fn empty_files() -> Vec<Case> {
+    vec![
+        case(&[], &[5], ""),
+        case(&[], &[5], "start 0, end 0"),
+        case(
+            &[],
+            &[u32::MAX],
+            "step 0, end 0, start 1, start 0, start 0, step 0, end 128, end 0, start 0, end 0",
+        ),
+        case(&[], &[], "start 0"),
+        case(&[], &[5, 7], "start 0"),
+        case(&[0], &[5], "start 0"),
+        case(&[0x4A], &[5], "start 0"),
+    ]
 }
 
 fn readers_and_writers() -> Vec<Case> {
@@ -429,8 +448,6 @@ pub fn deepest_list() -> Vec<u8> {
 fn refused_lists() -> Vec<Case> {
     let head = |locations| vec![0x4A, 0x48, locations, 0, 1, 0x4A, 0x42, 0];
     let mut cases = vec![
-        case(&[], &[], "start 0"),
-        case(&[], &[5], ""),
         // 6 before 7, and both before 8.
         case(&[&encode(&doubling_list(2))[..], &[0]].concat(), &[], ""),
         case(&[&EXAMPLE_P[..], &[0x4A]].concat(), &LIBRARY_P, ""),
@@ -501,16 +518,17 @@ fn refused_lists() -> Vec<Case> {
 pub fn random_case(rng: &mut Rng) -> Case {
     let most_bytes = if rng.percent(10) { 700 } else { 250 };
     let most_tasks = if rng.percent(10) { 60 } else { 20 };
-    let list = loop {
-        let list = random_list(rng);
-        let size = encode(&list).len();
-        if size <= most_bytes && task_count(&list, 0) <= most_tasks && list.locations <= 16 {
-            break list;
+    let file = loop {
+        let file = accepted_file(rng);
+        let list = decode(&file).expect("an accepted file");
+        let small = task_count(&list, 0) <= most_tasks && list.locations <= 16;
+        if file.len() <= most_bytes && small {
+            break file;
         }
     };
     let mut case = Case {
-        list: encode(&list),
-        library: random_library(rng, list.locations),
+        library: fitting_library(rng, &file),
+        list: file,
         calls: Vec::new(),
     };
     if rng.percent(4) {

@@ -94,3 +94,20 @@ fn what_is_printed_for_p() {
     assert_eq!(cases_output(&cases[19..20]), "case 0\nopen 8\n");
     assert!(cases_output(&cases[..1]).contains("\ncalls\n"));
 }
+
+/// #101: what is printed for the empty file is what is printed for the marked records.
+#[test]
+fn what_is_printed_for_the_empty_file() {
+    let cases: Vec<Case> = named_cases()
+        .into_iter()
+        .filter(|case| case.list.is_empty())
+        .collect();
+    let text = cases_output(&cases);
+    assert!(text.contains("write 8 4a480100014a4200\nshort refused 17\nhand 2 7 0\n"));
+    assert_eq!(distinct(numbers(&text, "open ")), [0, 8]);
+    let mut marked = cases;
+    for case in &mut marked {
+        case.list = list(1, &[], &[&[]]);
+    }
+    assert_eq!(cases_output(&marked), text);
+}

@@ -1,9 +1,13 @@
-//! Every example of document 01, "Publishing examples", and single sentences with a number in them.
+//! Every example of document 01, "Publishing examples", and single sentences with a number in them, of
+//! document 02 too.
 
 use second::cases::{doubling_list, library_bytes, EXAMPLE_P};
 use second::named::{constant, list, read_line, spawn, write_line, LIBRARY_P};
 use second::run::{may_read, never_made, ENDED, STARTED, WAITING};
 use second::*;
+
+/// The marked records of the empty list: C = 1, no footprints, one empty sheet.
+const MARKED: [u8; 8] = [0x4A, 0x48, 1, 0, 1, 0x4A, 0x42, 0];
 
 fn queue_of(run: &Run, location: u32) -> Vec<u16> {
     let mut places = [0; 128];
@@ -353,7 +357,6 @@ fn numbers_wrap_and_compare_unsigned() {
 
 #[test]
 fn check_examples() {
-    assert_eq!(check(&[]), Err(1));
     // C = 64 passes, 65 gives 3.
     assert_eq!(check(&[0x4A, 0x48, 64, 0, 1, 0x4A, 0x42, 0]), Ok(1));
     assert_eq!(check(&[0x4A, 0x48, 65, 0, 1, 0x4A, 0x42, 0]), Err(3));
@@ -385,6 +388,42 @@ fn check_examples() {
     let mut bytes = EXAMPLE_P.to_vec();
     bytes.push(0x4A);
     assert_eq!(check(&bytes), Err(6));
+}
+
+/// #101
+#[test]
+fn the_empty_file() {
+    assert_eq!(check(&[]), Ok(1));
+    let list = decode(&[]).unwrap();
+    assert_eq!(list, empty_list());
+    assert_eq!(
+        (list.locations, list.footprints.len(), list.bodies.len()),
+        (1, 0, 1)
+    );
+    assert!(list.bodies[0].is_empty());
+    // "The writer still gives the marked records for it".
+    let mut buffer = [7u8; 9];
+    assert_eq!(write(&list, &mut buffer), Ok(8));
+    assert_eq!(buffer[..8], MARKED);
+    assert_eq!(buffer[8], 7);
+    assert_eq!(write(&list, &mut buffer[..7]), Err(17));
+    assert_eq!(decode(&MARKED), Ok(list));
+    // Every part of them but the empty one is refused.
+    for length in 1..8 {
+        assert_eq!(check(&MARKED[..length]), Err(1));
+    }
+    // Its runs are those of the marked records.
+    for library in [&[][..], &[5], &[5, 7]] {
+        assert_eq!(open(&[], library), open(&MARKED, library));
+        assert_eq!(hand_run(&[], library), hand_run(&MARKED, library));
+        assert_eq!(open(&[], library).err(), (library.len() != 1).then_some(8));
+    }
+    let mut run = open(&[], &[5]).unwrap();
+    assert_eq!(queue_of(&run, 0), [512]);
+    assert_eq!(start(&mut run, 0), Ok(()));
+    assert_eq!(end(&mut run, 0), Ok(()));
+    assert_eq!((run.calls, run.weight, &run.memory[..]), (2, 7, &[5][..]));
+    assert_eq!(run, hand_run(&[], &[5]).unwrap());
 }
 
 #[test]
@@ -447,17 +486,46 @@ fn coordinator_lines() {
         transcript(&EXAMPLE_P, &library, &input),
         "18\n18\n9\n18\n5\n7\n0 0 1\n"
     );
-    assert_eq!(transcript(&[], &library, &input), "refused 1\n");
-    assert_eq!(transcript(&[], &[], &[]), "refused 1\n");
+    assert_eq!(transcript(&[0x4A], &library, &input), "refused 1\n");
     assert_eq!(transcript(&EXAMPLE_P, &library[..7], &input), "refused 8\n");
     assert_eq!(transcript(&EXAMPLE_P, &[], &input), "refused 8\n");
+}
+
+/// #101: an empty jobs.bin is a list, one that can't be read isn't; a library.bin that can't be read
+/// counts as empty.
+#[test]
+fn coordinator_lines_of_an_empty_file() {
+    let (one, two) = (library_bytes(&[5]), library_bytes(&LIBRARY_P));
+    let calls = [0x00, 0x00, 0x02, 0x00];
+    assert_eq!(transcript(&[], &one, &calls), "0\n0\n5\n2 7 0\n");
+    assert_eq!(transcript(&[], &one, &[]), "5\n0 0 1\n");
+    for library in [&[][..], &one[..3], &two] {
+        assert_eq!(transcript(&[], library, &calls), "refused 8\n");
+    }
+    let empty = Some(&[][..]);
+    for library in [None, empty, Some(&one[..]), Some(&two)] {
+        assert_eq!(files_transcript(None, library, &calls), "refused 1\n");
+    }
+    assert_eq!(
+        files_transcript(empty, Some(&one), &calls),
+        "0\n0\n5\n2 7 0\n"
+    );
+    assert_eq!(files_transcript(empty, None, &calls), "refused 8\n");
+    assert_eq!(
+        files_transcript(Some(&EXAMPLE_P), None, &calls),
+        "refused 8\n"
+    );
+    assert_eq!(
+        files_transcript(Some(&EXAMPLE_P), Some(&two), &[]),
+        "5\n7\n0 0 1\n"
+    );
 }
 
 #[test]
 fn preview_functions() {
     let library = library_bytes(&LIBRARY_P);
     assert_eq!(preview_check(&EXAMPLE_P), 3);
-    assert_eq!(preview_check(&[]), 129);
+    assert_eq!(preview_check(&[0x4A]), 129);
     assert_eq!(preview_check(&encode(&doubling_list(1))), 128);
     assert_eq!(preview_check(&encode(&doubling_list(2))), 135);
     let mut result = [1u8; 9];
@@ -474,4 +542,13 @@ fn preview_functions() {
         129
     );
     assert_eq!(result, [1; 7]);
+    // #101
+    assert_eq!(preview_check(&[]), 1);
+    for length in [0, 3, 5, 8] {
+        assert_eq!(preview_hand_run(&[], &library[..length], &mut result), 136);
+    }
+    assert_eq!(preview_hand_run(&[], &library[..4], &mut result[..3]), 145);
+    assert_eq!(result, [1; 7]);
+    assert_eq!(preview_hand_run(&[], &library[..4], &mut result), 0);
+    assert_eq!(result, [5, 0, 0, 0, 1, 1, 1]);
 }

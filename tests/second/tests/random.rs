@@ -92,11 +92,12 @@ fn random_order(rng: &mut Rng, bytes: &[u8], library: &[u32], met: &mut Met) {
 #[test]
 fn demand_3_on_random_lists() {
     let mut met = Met::default();
+    let mut empty = 0;
     for seed in 0..2000 {
         let mut rng = Rng::new(seed);
-        let list = random_list(&mut rng);
-        let bytes = encode(&list);
-        let library = random_library(&mut rng, list.locations);
+        let bytes = accepted_file(&mut rng);
+        empty += bytes.is_empty() as u64;
+        let library = fitting_library(&mut rng, &bytes);
         for _ in 0..2 {
             random_order(&mut rng, &bytes, &library, &mut met);
         }
@@ -121,6 +122,7 @@ fn demand_3_on_random_lists() {
     }
     assert!(met.most_jobs > 100);
     assert!(met.most_in_order > 50);
+    assert!(empty > 10);
 }
 
 #[test]
@@ -139,9 +141,9 @@ fn demand_3_on_the_doubling_trees() {
 fn a_refusal_leaves_the_run_unchanged() {
     for seed in 0..300 {
         let mut rng = Rng::new(10_000 + seed);
-        let list = random_list(&mut rng);
-        let library = random_library(&mut rng, list.locations);
-        let mut run = open(&encode(&list), &library).unwrap();
+        let bytes = accepted_file(&mut rng);
+        let library = fitting_library(&mut rng, &bytes);
+        let mut run = open(&bytes, &library).unwrap();
         let mut left = rng.below(60);
         while left > 0 && !run.order.is_empty() {
             left -= 1;
@@ -208,10 +210,11 @@ fn damaged_lists() {
     for seed in 0..60 {
         let mut rng = Rng::new(30_000 + seed);
         let bytes = encode(&random_list(&mut rng));
-        // A shorter part always gives 1, bytes left over always 6.
+        // A shorter part always gives 1, but for the empty one; bytes left over always 6.
         if bytes.len() < 1000 {
             for cut in truncations(&bytes) {
-                assert_eq!(check(&cut), Err(1));
+                let answer = if cut.is_empty() { Ok(1) } else { Err(1) };
+                assert_eq!(check(&cut), answer);
             }
         }
         for altered in alterations(&mut rng, &bytes) {
@@ -248,16 +251,24 @@ fn each_refusal_of_check_is_reached() {
 fn list_cases_reach_every_answer() {
     let mut rng = Rng::new(1);
     let mut answers = [0u64; 8];
+    let mut empty = 0;
     for _ in 0..3000 {
         let bytes = list_case(&mut rng);
-        match check(&bytes) {
-            Ok(_) => answers[0] += 1,
+        match decode(&bytes) {
+            Ok(list) => {
+                answers[0] += 1;
+                empty += bytes.is_empty() as u64;
+                // #101: "reading and then writing gives back every accepted file but the empty one"
+                assert_eq!(encode(&list) == bytes, !bytes.is_empty());
+            }
             Err(refusal) => answers[refusal as usize] += 1,
         }
     }
-    println!("answers {answers:?}");
+    println!("answers {answers:?}, {empty} empty files");
     assert!(answers.iter().all(|count| *count > 50));
-    assert_eq!(list_case_line(&[]), " refused 1");
+    assert!(empty > 5);
+    assert_eq!(list_case_line(&[]), " ok 1");
+    assert_eq!(list_case_line(&[0x4A]), "4a refused 1");
     assert_eq!(
         list_case_line(&[0x4A, 0x48, 1, 0, 1, 0x4A, 0x42, 0]),
         "4a480100014a4200 ok 1"
@@ -270,9 +281,11 @@ fn list_cases_reach_every_answer() {
 #[test]
 fn transcripts_follow_the_calls() {
     let mut half = 0;
+    let mut empty = 0;
     for seed in 0..500 {
         let mut rng = Rng::new(50_000 + seed);
         let (jobs, library, input) = run_case(&mut rng);
+        empty += jobs.is_empty() as u64;
         let text = transcript(&jobs, &library, &input);
         let lines: Vec<&str> = text.lines().collect();
         assert!(text.ends_with('\n'));
@@ -301,4 +314,5 @@ fn transcripts_follow_the_calls() {
         }
     }
     assert!(half > 20);
+    assert!(empty > 2);
 }

@@ -162,6 +162,14 @@ fn footprints() {
     );
 }
 
+/// What the text of the empty list gives: its marked records, as the writer does. A text of no lines is no list.
+#[test]
+fn the_empty_list() {
+    let marked = vec![0x4A, 0x48, 1, 0, 1, 0x4A, 0x42, 0];
+    assert_eq!(assemble("entries 1\nsheet 0:\n"), Ok(marked));
+    assert!(assemble("").is_err());
+}
+
 #[test]
 fn the_whole_text() {
     assert_eq!(

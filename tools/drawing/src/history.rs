@@ -226,6 +226,22 @@ mod tests {
         assert_eq!(refused, [("step", 14), ("start", 10)]);
     }
 
+    /// A jobs.bin of no bytes is one empty sheet.
+    #[test]
+    fn the_empty_list() {
+        let (jobs, library, calls) = example!("empty");
+        assert!(jobs.is_empty());
+        let history = follow(jobs, library, calls).unwrap();
+        let answers: Vec<(&str, u32)> = history
+            .events
+            .iter()
+            .map(|event| (event.word, event.answer))
+            .collect();
+        assert_eq!(answers, [("start", 0), ("end", 0)]);
+        assert_eq!((history.run.calls, history.run.weight), (2, 7));
+        assert_eq!(follow(jobs, &[], calls).err(), Some(8));
+    }
+
     #[test]
     fn half_a_call_and_another_kind() {
         let (jobs, library, _) = example!("p");

@@ -1,5 +1,6 @@
 //! The second implementation on the command line.
-//! second check                      a list from standard input: count(0), or `refused K`
+//! second check                      a list from standard input: count(0), or `refused K`; 1 too
+//!                                   where it can't be read
 //! second transcript JOBS LIBRARY    what the coordinator prints; calls from standard input
 //! second list-cases SEED N          N lines: list in hexadecimal, `ok COUNT` or `refused K`
 //! second list-files SEED N DIR      N lists as files of DIR, and a line for each, as check prints it
@@ -11,6 +12,7 @@ use std::io::{Read, Write};
 
 use second::case_file::{cases_output, decode_cases, encode_cases, MOST_BYTES};
 use second::coordinator::open_files;
+use second::list::NOT_WHOLE;
 use second::rng::Rng;
 use second::{cases, named};
 
@@ -18,16 +20,20 @@ fn main() {
     let arguments: Vec<String> = std::env::args().skip(1).collect();
     let words: Vec<&str> = arguments.iter().map(String::as_str).collect();
     let text = match words[..] {
-        ["check"] => answer(&standard_input()),
+        ["check"] => match standard_input() {
+            Some(list) => answer(&list),
+            None => format!("refused {NOT_WHOLE}\n"),
+        },
         ["transcript", jobs, library] => {
-            let jobs = file(jobs);
-            let library = file(library);
+            let jobs = std::fs::read(jobs).ok();
+            let library = std::fs::read(library).ok();
+            let (jobs, library) = (jobs.as_deref(), library.as_deref());
             // After a failed open standard input is not used.
-            let input = match open_files(&jobs, &library) {
-                Ok(_) => standard_input(),
-                Err(_) => Vec::new(),
+            let input = match jobs.map(|jobs| open_files(jobs, library.unwrap_or(&[]))) {
+                Some(Ok(_)) => standard_input().unwrap_or_default(),
+                _ => Vec::new(),
             };
-            second::transcript(&jobs, &library, &input)
+            second::files_transcript(jobs, library, &input)
         }
         ["list-cases", seed, n] => {
             let mut rng = Rng::new(number(seed));
@@ -90,11 +96,6 @@ fn answer(list: &[u8]) -> String {
     }
 }
 
-/// "an unreadable file counts as empty"
-fn file(path: &str) -> Vec<u8> {
-    std::fs::read(path).unwrap_or_default()
-}
-
 fn write_file(path: &str, bytes: &[u8]) {
     if let Err(error) = std::fs::write(path, bytes) {
         fail(&format!("{path}: {error}"))
@@ -106,11 +107,12 @@ fn fail(text: &str) -> ! {
     std::process::exit(1)
 }
 
-fn standard_input() -> Vec<u8> {
+/// None where it can't be read.
+fn standard_input() -> Option<Vec<u8>> {
     let mut bytes = Vec::new();
     match std::io::stdin().read_to_end(&mut bytes) {
-        Ok(_) => bytes,
-        Err(_) => Vec::new(),
+        Ok(_) => Some(bytes),
+        Err(_) => None,
     }
 }
 

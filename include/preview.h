@@ -19,7 +19,7 @@ extern "C" {
 #endif
 
 /*
- * Checks a job list of `list_len` bytes.
+ * Checks a job list of `list_len` bytes. No bytes are a list too: of one entry, no footprints and one empty sheet.
  *
  *   1 to 128  accepted: how many jobs the list can make, its count(0)
  *   129       refused, 1: the bytes end within a field
@@ -36,7 +36,7 @@ uint32_t preview_check(const uint8_t *list, size_t list_len);
 
 /*
  * Runs a job list by hand, one job after the other, on a library: the C entries of the list, four bytes for each, least
- * first. C is the third byte of the list, 1 to 64.
+ * first. C is the third byte of the list, 1 to 64; for a list of no bytes it is 1.
  *
  *   0           done: the first 4 * C bytes of `result` are the entries after the run, four bytes for each, least first;
  *               the bytes behind them are as they were

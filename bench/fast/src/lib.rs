@@ -1,5 +1,5 @@
 //! Check and hand run in plain Rust, written for speed: one pass over the bytes, no allocation, the run changed in place.
-//! The benchmark measures the proved functions against these. Quoted words are document 01's.
+//! The benchmark measures the proved functions against these. Quoted words are document 01's and request 101's.
 
 mod check;
 mod run;
@@ -14,13 +14,24 @@ unsafe fn lent<'a, T>(at: *const T, len: usize) -> &'a [T] {
     std::slice::from_raw_parts(at, len)
 }
 
+/// A job list that the benchmark lends. "A file of no bytes shall now mean C = 1, no footprints, and one empty sheet."
+///
+/// # Safety
+/// As for `lent`.
+unsafe fn lent_list<'a>(at: *const u8, len: usize) -> &'a [u8] {
+    match lent(at, len) {
+        [] => &[0x4A, 0x48, 1, 0, 1, 0x4A, 0x42, 0],
+        list => list,
+    }
+}
+
 /// count(0), or 128 plus the refusal's number.
 ///
 /// # Safety
 /// The pointer is valid for the length beside it and is not null.
 #[no_mangle]
 pub unsafe extern "C" fn fast_check(list: *const u8, list_len: usize) -> u32 {
-    check::check(lent(list, list_len))
+    check::check(lent_list(list, list_len))
 }
 
 /// The bytes of a run, for the benchmark to lend as many.
@@ -42,7 +53,11 @@ pub unsafe extern "C" fn fast_hand_run(
     memory_len: usize,
     run: *mut Run,
 ) -> u32 {
-    run::hand_run(lent(list, list_len), lent(memory, memory_len), &mut *run)
+    run::hand_run(
+        lent_list(list, list_len),
+        lent(memory, memory_len),
+        &mut *run,
+    )
 }
 
 /// The calls of a run.

@@ -25,7 +25,7 @@ pub enum File {
 }
 
 impl File {
-    /// "an unreadable file counts as empty"
+    /// "an unreadable file counts as empty"; of jobs.bin, `expected` decides
     fn bytes(&self) -> &[u8] {
         match self {
             File::Bytes(bytes) => bytes,
@@ -51,9 +51,12 @@ pub struct Case {
     pub pieces: Vec<usize>,
 }
 
-/// What the coordinator is to print.
+/// What the coordinator is to print. "The coordinator still prints `refused 1` where jobs.bin can't be read."
 pub fn expected(case: &Case) -> String {
-    transcript(case.jobs.bytes(), case.library.bytes(), &case.input)
+    match &case.jobs {
+        File::Bytes(jobs) => transcript(jobs, case.library.bytes(), &case.input),
+        _ => "refused 1\n".to_string(),
+    }
 }
 
 // ---------------------------------------------------------------------------------------------

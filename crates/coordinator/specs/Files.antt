@@ -11,12 +11,13 @@ abbrev pub size-of : FileRead → ℕ
 size-of Unreadable = 0
 size-of (Bytes n) = n
 
--- request 101: "The coordinator still prints `refused 1` where jobs.bin can't be read."
-abbrev pub number-of : FileRead → ℕ → ℕ
-number-of Unreadable k = 1
-number-of (Bytes n) k = k
-
 -- they are within the buffer
 pub record Within (read : FileRead) (buffer : List ℕ) : Type 0 where
   pub most : size-of read ≤ length buffer
   pub whole : size-of read ≡ length (take (size-of read) buffer)
+
+-- the number that open answers, by how jobs.bin was read. Request 101: "The coordinator still prints `refused 1` where
+-- jobs.bin can't be read."
+abbrev pub number-of : FileRead → ℕ → ℕ
+number-of Unreadable k = 1
+number-of (Bytes n) k = k

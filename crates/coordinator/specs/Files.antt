@@ -15,3 +15,9 @@ size-of (Bytes n) = n
 pub record Within (read : FileRead) (buffer : List ℕ) : Type 0 where
   pub most : size-of read ≤ length buffer
   pub whole : size-of read ≡ length (take (size-of read) buffer)
+
+-- the number that open answers, by how jobs.bin was read. Request 101: "The coordinator still prints `refused 1` where
+-- jobs.bin can't be read."
+abbrev pub number-of : FileRead → ℕ → ℕ
+number-of Unreadable k = 1
+number-of (Bytes n) k = k

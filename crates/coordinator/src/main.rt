@@ -4,10 +4,13 @@ ghost use Prim.Native.Nat.{_+_, _*_, _/_, _≤_};
 ghost use mathlib.Core.Path.{_≡_};
 ghost use lib.ListN.{length, take};
 ghost use Rattle.transcript.specs.Promises.{FedAs};
-ghost use Rattle.coordinator.specs.Files.{size-of, Within};
+ghost use Rattle.runtime.specs.Asked.{open-number};
+ghost use Rattle.coordinator.specs.Files.{size-of, number-of, Within};
 use libc::STDIN_FILENO;
 use libc::STDOUT_FILENO;
+use runtime::OpenAnswer;
 use runtime::Run;
+use tasklist::Refusal;
 use transcript::Fed;
 use transcript::Pending;
 
@@ -58,13 +61,25 @@ fn read_file(name: &[u8], buf: &mut [u8]) -> FileRead
     read
 }
 
-// "an unreadable file counts as empty"
+// "an unreadable file counts as empty"; of an unreadable jobs.bin nothing is used.
 fn size_of(read: FileRead) -> usize
     ensures { λ r. ⌜ r ≡ size-of read ⌝ }
 {
     match read {
         FileRead::Unreadable => 0,
         FileRead::Bytes(n) => n,
+    }
+}
+
+// What open answers, by how jobs.bin was read: 1 where it can't be.
+fn answer_of(jobs: FileRead, answer: OpenAnswer) -> OpenAnswer
+    ensures { λ r. ⌜ open-number r ≡ number-of jobs (open-number answer) ⌝ }
+{
+    match jobs {
+        FileRead::Unreadable => OpenAnswer::Refused {
+            refusal: Refusal::Incomplete,
+        },
+        FileRead::Bytes(_) => answer,
     }
 }
 
@@ -131,11 +146,13 @@ fn serve(run: Run) {
 // One byte more than the longest list and than the longest library, so that a longer file shows.
 fn main() {
     let mut jobs = [0u8; 4806];
-    let listed = size_of(read_file(b"jobs.bin", &mut jobs));
+    let list = read_file(b"jobs.bin", &mut jobs);
+    let listed = size_of(list);
     let mut numbers = [0u8; 257];
     let count = size_of(read_file(b"library.bin", &mut numbers));
     let opened = transcript::open_files(&jobs[..listed], &numbers[..count]);
-    let answer = opened.answer;
+    let answered = opened.answer;
+    let answer = answer_of(list, answered);
     if transcript::open_number(answer) == 0 {
         let run = opened.run;
         serve(run);

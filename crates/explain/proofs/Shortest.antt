@@ -1,5 +1,5 @@
 -- The refused field: bytes behind change nothing that was taken or refused but for a field that is cut off (1). So the
--- shortest part whose answer isn't 1 has the refusal of the whole list, and every shorter part is cut off.
+-- shortest part of a byte or more whose answer isn't 1 has the refusal of the whole list, and every shorter one is cut off.
 -- Assumes nothing.
 use Prim.Native.Nat.{ℕ, zero, suc, _+_, _≤_, _<_}
 use mathlib.Core.Path.{_≡_, refl, sym, ap, _∙_, subst}
@@ -18,6 +18,7 @@ use Rattle.tasklist.specs.Decode.{head-numbers, head, is-line, line, footprint,
 use Rattle.tasklist.specs.declared.Header.{Header}
 use Rattle.tasklist.specs.TaskList.{TaskList, task-count}
 use Rattle.tasklist.specs.Answers.{check-answer}
+use Rattle.explain.specs.Search.{first-from}
 use Rattle.explain.specs.Where.{whole-answer, is-whole, shortest-whole}
 use Rattle.explain.proofs.FirstLaws.{first-ends, first-before}
 
@@ -136,11 +137,23 @@ part-told c (bad m) y k longer whole e small =
     same
 part-told c (took l rest) y k longer whole e small = absurd (finish-told l (rest ++ c) k (sym (ap finish longer) ∙ e) small)
 
+pub whole-none : (b : List ℕ) → length b ≡ 0 → is-whole b ≡ false
+unfolding is-whole
+whole-none [] none-there = refl
+whole-none (x ∷ b) none-there = let z : ⊥ = omega arith in absurd z
+
+pub whole-some : (b : List ℕ) → (length b ≡ 0 → ⊥) → is-whole b ≡ whole-answer (check-answer (decode b))
+unfolding is-whole
+whole-some [] bytes = absurd (bytes refl)
+whole-some (x ∷ b) bytes = refl
+
 -- a part that is not cut off has the refusal of the whole
 pub part-refused : (b c : List ℕ) (k : ℕ) → is-whole b ≡ true → decode (b ++ c) ≡ refused k → k < 6 → decode b ≡ refused k
 unfolding decode is-whole
-part-refused b c k whole e small =
-    part-told c (and-then (head b) list-behind) (and-then (head (b ++ c)) list-behind) k (and-then-stable head list-behind head-stable behind-stable b c) whole e small
+part-refused [] c k whole e small = let n : _≡_ {A = ℕ} 0 1 = ap (λ b. cond b 1 0) whole in let z : ⊥ = omega arith in absurd z
+part-refused (x ∷ b) c k whole e small =
+    part-told c (and-then (head (x ∷ b)) list-behind) (and-then (head (x ∷ (b ++ c))) list-behind) k
+    (and-then-stable head list-behind head-stable behind-stable (x ∷ b) c) whole e small
 
 cut-off : (d : Decoded) → whole-answer (check-answer d) ≡ false → d ≡ refused 1
 cut-off (refused k) e = ap refused (eqb-true k 1 (not-false (eqb k 1) e))
@@ -156,8 +169,11 @@ shortest-refused b k e small = shortest-look (first-ends (λ n. is-whole (take n
         part-refused (take (shortest-whole b) b) (drop (shortest-whole b) b) k whole (ap decode (take-append-drop (shortest-whole b) b) ∙ e) small
     shortest-look (inr all) = ap (λ n. decode (take n b)) (all ∙ zero-add (length b)) ∙ ap decode (take-length b) ∙ e
 
--- every shorter part is cut off within a field
-pub shorter-cut-off : (b : List ℕ) (n : ℕ) → n < shortest-whole b → decode (take n b) ≡ refused 1
-unfolding shortest-whole is-whole
-shorter-cut-off b n h =
-    cut-off (decode (take n b)) (ap (λ m. is-whole (take m b)) (sym (zero-add n)) ∙ first-before (λ m. is-whole (take m b)) 0 (length b) n (omega (arith, h, zero-add n)))
+-- every shorter part of a byte or more is cut off within a field
+pub shorter-cut-off : (b : List ℕ) (n : ℕ) → 0 < n → n < shortest-whole b → decode (take n b) ≡ refused 1
+unfolding shortest-whole first-from is-whole
+shorter-cut-off b zero bytes h = let z : ⊥ = omega arith in absurd z
+shorter-cut-off [] (suc n) bytes h = let z : ⊥ = omega arith in absurd z
+shorter-cut-off (x ∷ b) (suc n) bytes h =
+    let test : ℕ → Bool = λ m. is-whole (take m (x ∷ b)) in
+    cut-off (decode (x ∷ take n b)) (ap test (sym (zero-add (suc n))) ∙ first-before test 0 (length (x ∷ b)) (suc n) (omega (arith, h, zero-add (suc n))))

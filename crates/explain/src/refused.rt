@@ -5,10 +5,13 @@ use crate::words::say;
 use crate::words::say_with;
 use tasklist::Checked;
 
-// Whether check's answer isn't refusal 1: no field is cut off.
+// Whether a part has bytes and check's answer isn't refusal 1: no field is cut off.
 pub fn whole(bytes: &[u8]) -> bool
     ensures { λ r. ⌜ r ≡ is-whole (now (bytes .entry)) ⌝ }
 {
+    if bytes.len() == 0 {
+        return false;
+    }
     match tasklist::check(bytes) {
         Checked::Count(_) => true,
         Checked::Refused(refusal) => tasklist::refusal_number(refusal) != 1,

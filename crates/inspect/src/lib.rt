@@ -127,7 +127,7 @@ pub fn location_queue(run: Run, location: u32, out: &mut [u16]) -> Queued
     Queued::Places(n)
 }
 
-// Writes the accepted list's own bytes: 17 `out` too short.
+// Writes the accepted list's records, its own bytes but for a file of none: 17 `out` too short.
 pub fn list_bytes(run: Run, out: &mut [u8]) -> Written
     ensures { λ r. ⌜ (written r ≡ write-answer (encode (list-of (run .tables))) (now (out .entry))) × (now (out .exit) ≡ write-places (encode (list-of (run .tables))) (now (out .entry))) ⌝ }
 {

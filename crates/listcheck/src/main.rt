@@ -1,7 +1,7 @@
-// Checks job lists: one line for each file named, its task count or `refused N`. A file that can't be read counts as
-// empty.
+// Checks job lists: one line for each file named, its task count or `refused N`; `refused 1` too where it can't be read.
 use libc::STDOUT_FILENO;
 use tasklist::Checked;
+use tasklist::Refusal;
 
 fn print(answer: Checked) {
     match answer {
@@ -16,16 +16,23 @@ fn print(answer: Checked) {
     io::write_all(STDOUT_FILENO, b"\n");
 }
 
-// Checks the file of a name. The buffer holds one byte more than the longest list, so that bytes left over show.
+// Checks the file of a name. The buffer holds one byte more than the longest list, so that bytes left over show. A short
+// count is the file's end only if reading on gives no error.
 fn check_file(name: &[u8]) {
     let mut bytes = [0u8; 4806];
     let file = os::open_read(name);
     if file < 0 {
-        print(tasklist::check(&bytes[..0]));
+        print(Checked::Refused(Refusal::Incomplete));
         return;
     }
     let n = io::read_full(file, &mut bytes);
+    let mut more = [0u8; 1];
+    let got = libc::read(file, &mut more);
     libc::close(file);
+    if got < 0 {
+        print(Checked::Refused(Refusal::Incomplete));
+        return;
+    }
     print(tasklist::check(&bytes[..n]));
 }
 

@@ -6,7 +6,7 @@ use mathlib.Core.List.{List, [], _∷_}
 use native.Mathlib.Omega.{arith}
 use lib.ListN.{length, getD}
 use borrow.Author.Tests.{eq-eqb, ne-eqb, le-leb, lt-leb}
-use Rattle.tasklist.specs.TaskList.{TaskList, total}
+use Rattle.tasklist.specs.TaskList.{TaskList, total, count-body, counts, task-count}
 use Rattle.tasklist.specs.Decode.{refused, accepted, decode}
 use Rattle.tasklist.proofs.Guarantees.{accepted-list}
 use Rattle.semantics.specs.Run.{context, fixed-weights, weight-of}
@@ -15,7 +15,12 @@ use Rattle.semantics.specs.Operations.{denies, gives, with-list, sequential-ask
 use Rattle.semantics.proofs.Sound.{sequential-sound}
 use Rattle.library.specs.Library.{numbers-of, memory-of, bytes-of}
 use Rattle.library.proofs.LibraryLaws.{numbers-length, numbers-small, bytes-length, memory-whole, fits-length, fits-only}
-use Rattle.preview.specs.Preview.{final-entries, hand-run-over-c}
+use Rattle.preview.specs.Preview.{check-over-c, final-entries, hand-run-over-c}
+
+-- request 101: the preview of a file of no bytes shows one job
+pub no-bytes-checked : check-over-c [] ≡ 1
+unfolding check-over-c decode task-count counts count-body total
+no-bytes-checked = refl
 
 at-most : (ws : List ℕ) (i : ℕ) → getD ws i 0 ≤ total (λ (w : ℕ). w) ws
 unfolding total

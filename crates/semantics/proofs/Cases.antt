@@ -9,7 +9,7 @@ use Rattle.tasklist.specs.declared.Instruction.{Instruction}
 use Rattle.tasklist.specs.declared.Instruction.the-variants.{Const, Sub, Load, Store, Spawn}
 use Rattle.tasklist.specs.TaskList.{TaskList, body-of, footprint-of, instruction-of, total, adds, count-body, count-from, counts, task-count}
 use Rattle.tasklist.specs.Fields.{field, is-tag, tag, in-range, number, counted, many, row}
-use Rattle.tasklist.specs.Decode.{head-numbers, head, line-limit, line-ok, is-line, line, footprint, forms, form, instruction-ok, is-instruction, instruction, body, list-behind, sized, finish, decode}
+use Rattle.tasklist.specs.Decode.{head-numbers, head, line-limit, line-ok, is-line, line, footprint, forms, form, instruction-ok, is-instruction, instruction, body, list-behind, sized, finish, empty-list, decode}
 use Rattle.tasklist.specs.Decode
 use Rattle.tasklist.specs.Encode.{instruction-fields}
 use Rattle.tasklist.proofs.Cases.{P}
@@ -119,6 +119,10 @@ cases =
     tasks-in (tower []) 127 ∷
     tasks-in (tower (6 ∷ [])) 128 ∷
     refused-with (tower (6 ∷ 6 ∷ [])) 7 ∷
+    -- request 101: "A file of no bytes shall now mean C = 1, no footprints, and one empty sheet."
+    tasks-in [] 1 ∷
+    by-calls empty-list (5 ∷ []) (start-of 0 ∷ end-of 0 ∷ []) (0 ∷ 0 ∷ []) (order-is [] ∷ calls-are 2 ∷ weight-is 7 ∷ []) ∷
+    by-hand empty-list (5 ∷ []) (memory-is (5 ∷ []) ∷ order-is [] ∷ calls-are 2 ∷ weight-is 7 ∷ []) ∷
     -- Besides those marked. "With P and input 00 00 01 00 01 00 00 02 it prints the lines 0, 0, 0, 12, 5, 7, `3 21 3`."
     by-calls P (5 ∷ 7 ∷ []) (opening ++ (start-of 2 ∷ [])) (0 ∷ 0 ∷ 0 ∷ 12 ∷ [])
     (memory-is (5 ∷ 7 ∷ []) ∷ calls-are 3 ∷ weight-is 21 ∷ order-is (1 ∷ 2 ∷ 0 ∷ []) ∷ []) ∷

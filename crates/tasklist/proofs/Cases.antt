@@ -1,4 +1,4 @@
--- Document 01's example P: 54 bytes, which decode and encode again.
+-- Document 01's example P: 54 bytes, which decode and encode again. The list of no bytes, whose records are 8 bytes.
 use Prim.Native.Nat.{ℕ}
 use mathlib.Core.Path.{_≡_, refl}
 use mathlib.Core.List.{List, [], _∷_}
@@ -6,8 +6,8 @@ use lib.ListN.{length}
 use Rattle.tasklist.specs.declared.Instruction.the-variants.{Const, Load, Store, Spawn}
 use Rattle.tasklist.specs.TaskList.{TaskList, total, adds, count-body, count-from, counts, task-count}
 use Rattle.tasklist.specs.Fields.{field, is-tag, tag, in-range, number, counted, many, row}
-use Rattle.tasklist.specs.Decode.{head-numbers, head, line-limit, line-ok, is-line, line, footprint, forms, form, register, instruction-ok, is-instruction, instruction, body, list-behind, sized, finish, decode, accepted}
-use Rattle.tasklist.specs.Encode.{instruction-fields, line-fields, joined, footprint-bytes, body-bytes, head-bytes, encode}
+use Rattle.tasklist.specs.Decode.{head-numbers, head, line-limit, line-ok, is-line, line, footprint, forms, form, register, instruction-ok, is-instruction, instruction, body, list-behind, sized, finish, empty-list, decode, accepted}
+use Rattle.tasklist.specs.Encode.{instruction-fields, line-fields, joined, footprint-bytes, body-bytes, head-bytes, encode, marked}
 
 abbrev pub P-bytes : List ℕ
 P-bytes =
@@ -41,3 +41,11 @@ P-decodes = refl
 pub P-encodes : encode P ≡ P-bytes
 unfolding instruction-fields line-fields joined footprint-bytes body-bytes head-bytes encode
 P-encodes = refl
+
+pub empty-decodes : decode [] ≡ accepted empty-list
+unfolding decode
+empty-decodes = refl
+
+pub empty-encodes : encode empty-list ≡ marked []
+unfolding instruction-fields line-fields joined footprint-bytes body-bytes head-bytes encode marked
+empty-encodes = refl

@@ -15,7 +15,9 @@ use Rattle.tasklist.specs.declared.Instruction.{Instruction}
 use Rattle.tasklist.specs.TaskList.{TaskList, task-count}
 use Rattle.tasklist.specs.Fields.{Taken, bad, took, and-then, counted, many, row}
 use Rattle.tasklist.specs.Decode.{head, footprint, body, list-behind, refused, accepted, sized, finish, decode}
+use Rattle.tasklist.specs.Encode.{marked}
 use Rattle.tasklist.proofs.TakenLaws.{split, counted-most}
+use Rattle.tasklist.proofs.ReaderLaws.{decode-marked}
 
 -- the items of l, from number i on, taken one behind the other from b, up to rest
 abbrev pub Chain : {A : Type 0} → (ℕ → List ℕ → Taken A) → ℕ → List ℕ → List A → List ℕ → Type 0
@@ -156,9 +158,9 @@ finished (took x []) l e = by-count (leb (task-count x 0) 128) refl e
         record { all = ap (λ (y : TaskList). took y []) same; few = rw same at (leb-true (task-count x 0) 128 q) }
     by-count false q f = let z : _≡_ {A = ℕ} 0 1 = cc in let y : ⊥ = omega arith in absurd y
 
-pub list-taken : (b : List ℕ) (l : TaskList) → decode b ≡ accepted l → ListTaken b l
-unfolding decode list-behind
-list-taken b l e =
+list-behind-taken : (b : List ℕ) (l : TaskList) → finish (and-then (head b) list-behind) ≡ accepted l → ListTaken b l
+unfolding list-behind
+list-behind-taken b l e =
     let f = finished (and-then (head b) list-behind) l e in
     let s₀ = split (head b) list-behind l [] (f .all) in
     let h = s₀ .first in
@@ -195,3 +197,6 @@ list-taken b l e =
           few-tasks = rw same few;
         } in
         subst (ListTaken b) same w
+
+pub list-taken : (b : List ℕ) (l : TaskList) → decode b ≡ accepted l → ListTaken (marked b) l
+list-taken b l e = list-behind-taken (marked b) l (sym (decode-marked b) ∙ e)

@@ -166,7 +166,7 @@ decode-complete l ok small =
     let bodies =
     all-read body-bytes (body h) [] (l .bodies) []
     (λ s _. body-reads h s (body-of l s) (ok .most-instructions s) (small s) (ok .instructions s)) in
-    decode-behind (encode l) h (fs ++ bs) (head-reads l range (fs ++ bs)) ∙
+    decode-behind (encode l) (λ none. omega arith) h (fs ++ bs) (head-reads l range (fs ++ bs)) ∙
     finish-whole h (fs ++ bs) (l .footprints) bs footprints (l .bodies) []
     (ap (many (body h) 0 (length (l .bodies)) []) (sym (append-nil bs)) ∙ bodies) (omega arith) ∙
     sized-few l (omega (arith, ok .most-tasks))

@@ -16,6 +16,7 @@ use Rattle.tasklist.specs.declared.Instruction.{Instruction}
 use Rattle.tasklist.specs.declared.Instruction.the-variants.{Const, Add, Sub, Less, Load, Store, Skip, Spawn, Wait}
 use Rattle.tasklist.specs.TaskList.{TaskList, blank-instruction, body-of, footprint-of, instruction-of, total, adds, count-body, count-from, counts, task-count}
 use Rattle.tasklist.specs.Decode.{line-ok, is-line, line, footprint, form, register, instruction-ok, kept, is-instruction, instruction, scope, body, accepted, decode}
+use Rattle.tasklist.specs.Encode.{marked}
 use Rattle.tasklist.specs.Accepted.{blank-line, scope-of, Accepted}
 use Rattle.tasklist.proofs.TakenLaws.{both-true, only-if-some, field-taken}
 use Rattle.tasklist.proofs.ReaderLaws.{head-range}
@@ -193,7 +194,7 @@ pub accepted-list : (b : List ℕ) (l : TaskList) → decode b ≡ accepted l �
 unfolding footprint body body-of footprint-of instruction-of
 accepted-list b l e =
     let t = list-taken b l e in
-    let h = head-range b (header-of l) (t .behind-head) (t .took-head) in
+    let h = head-range (marked b) (header-of l) (t .behind-head) (t .took-head) in
     let at = scope (header-of l) in
     let footprints =
     rows-ok 0x46 8 4 (λ _ _ _. line (l .locations)) (λ _ _ _ x. line-ok (l .locations) x ≡ true) blank-line

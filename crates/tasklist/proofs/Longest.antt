@@ -1,6 +1,6 @@
 -- "The longest list has 4,805 bytes."
 use Prim.Native.Nat.{ℕ, suc, _*_, _≤_}
-use mathlib.Core.Path.{_≡_, refl}
+use mathlib.Core.Path.{_≡_, refl, ap}
 use mathlib.Core.List.{List, [], _∷_}
 use native.Mathlib.Omega.{arith}
 use native.Mathlib.Nat.{mul-suc}
@@ -8,7 +8,7 @@ use lib.ListN.{length, getD, length-append, replicate}
 use Rattle.tasklist.specs.TaskList.{TaskList, blank-instruction, body-of, footprint-of, total, adds, count-body, count-from, counts, task-count}
 use Rattle.tasklist.specs.Fields.{field, is-tag, tag, in-range, number, counted, many, row}
 use Rattle.tasklist.specs.Decode.{head-numbers, head, line-limit, line-ok, is-line, line, footprint, forms, form, register, instruction-ok, is-instruction, instruction, body, list-behind, sized, finish, decode, accepted}
-use Rattle.tasklist.specs.Encode.{instruction-fields, line-fields, joined, footprint-bytes, body-bytes, head-bytes, encode}
+use Rattle.tasklist.specs.Encode.{instruction-fields, line-fields, joined, footprint-bytes, body-bytes, head-bytes, encode, marked}
 use Rattle.tasklist.specs.Accepted.{blank-line, Accepted}
 use Rattle.tasklist.proofs.Guarantees.{accepted-list}
 use Rattle.tasklist.proofs.RoundTrip.{Bytes, encode-decoded}
@@ -35,8 +35,13 @@ encode-size l ok =
       joined-most body-bytes 131 [] (l .bodies) (λ s. omega (arith, body-length (body-of l s), ok .most-instructions s)),
     )
 
+marked-longer : (b : List ℕ) → length b ≤ length (marked b)
+unfolding marked
+marked-longer [] = omega arith
+marked-longer (x ∷ b) = omega arith
+
 pub longest : (b : List ℕ) (l : TaskList) → Bytes b → decode b ≡ accepted l → length b ≤ 4805
-longest b l bytes e = rw (encode-decoded b l bytes e) at (encode-size l (accepted-list b l e))
+longest b l bytes e = omega (arith, ap length (encode-decoded b l bytes e), encode-size l (accepted-list b l e), marked-longer b)
 
 -- and one has as many: 32 footprints of 8 lines, 32 bodies of 32 instructions
 unfoldable pub longest-list : TaskList

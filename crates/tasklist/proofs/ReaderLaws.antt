@@ -1,19 +1,20 @@
 -- Laws of the whole list: what each stage of the reader tells of `decode`.
-use Prim.Native.Nat.{ℕ, suc, _+_, _≤_, _<_, min}
-use mathlib.Core.Path.{_≡_, refl, sym, ap, _∙_}
+use Prim.Native.Nat.{ℕ, zero, suc, _+_, _≤_, _<_, min}
+use mathlib.Core.Path.{_≡_, refl, sym, ap, _∙_, subst}
 use mathlib.Core.List.{List, [], _∷_}
 use native.Mathlib.Omega.{arith}
-use lib.ListN.{length, getD}
+use lib.ListN.{length, getD, replicate}
 use borrow.Author.Tests.{le-leb, lt-leb}
 use Rattle.tasklist.specs.declared.Header.{Header}
 use Rattle.tasklist.specs.declared.Line.{Line}
 use Rattle.tasklist.specs.declared.Instruction.{Instruction}
-use Rattle.tasklist.specs.TaskList.{TaskList, task-count}
-use Rattle.tasklist.specs.Fields.{Taken, bad, took, and-then, tag, number, many}
-use Rattle.tasklist.specs.Decode.{head-numbers, head, footprint, body, list-behind, refused, accepted, sized, finish, decode}
+use Rattle.tasklist.specs.TaskList.{TaskList, total, count-body, count-from, counts, task-count}
+use Rattle.tasklist.specs.Fields.{Taken, bad, took, and-then, field, is-tag, tag, in-range, number, counted, many, row}
+use Rattle.tasklist.specs.Decode.{head-numbers, head, footprint, body, list-behind, refused, accepted, sized, finish, empty-list, decode}
+use Rattle.tasklist.specs.Encode.{marked}
 use Rattle.tasklist.specs.declared.Tables.{Tables}
 use Rattle.tasklist.specs.declared.Checked.the-variants.{Count}
-use Rattle.tasklist.specs.Tables.{capped, list-of}
+use Rattle.tasklist.specs.Tables.{rows, list-of, blank-tables, capped, Holds}
 use Rattle.tasklist.specs.Answers.{ReadAs, gives}
 use Rattle.tasklist.proofs.TakenLaws.{split, Number, number-range}
 
@@ -52,14 +53,38 @@ head-range b h rest e =
         let w : HeadRange (record { locations = c; footprints = f; bodies = s }) = record { locations = x; footprints = y; bodies = z } in
         rw r at w
 
-module _ (b : List ℕ) where
+-- a file of no bytes is read as its marked records
+empty-marked : decode [] ≡ finish (and-then (head (marked [])) list-behind)
+unfolding decode marked field is-tag tag in-range number counted many row head-numbers head footprint body list-behind sized finish total count-body count-from counts task-count
+empty-marked = refl
+
+pub decode-marked : (b : List ℕ) → decode b ≡ finish (and-then (head (marked b)) list-behind)
+unfolding decode marked
+decode-marked [] = empty-marked
+decode-marked (x ∷ b) = refl
+
+pub decode-again : (b : List ℕ) → decode (marked b) ≡ decode b
+unfolding decode marked
+decode-again [] = sym empty-marked
+decode-again (x ∷ b) = refl
+
+pub decode-none : (b : List ℕ) → length b ≡ 0 → decode b ≡ accepted empty-list
+unfolding decode
+decode-none [] h = refl
+decode-none (x ∷ b) h = let z : ⊥ = omega arith in absurd z
+
+marked-some : (b : List ℕ) → (length b ≡ 0 → ⊥) → marked b ≡ b
+unfolding marked
+marked-some [] h = absurd (h refl)
+marked-some (x ∷ b) h = refl
+
+module _ (b : List ℕ) (some : length b ≡ 0 → ⊥) where
   pub decode-head-bad : (j : ℕ) → head b ≡ bad j → decode b ≡ refused j
-  unfolding decode finish
-  decode-head-bad j e = rw e
+  unfolding finish
+  decode-head-bad j e = decode-marked b ∙ rw (marked-some b some, e)
 
   pub decode-behind : (h : Header) (rest : List ℕ) → head b ≡ took h rest → decode b ≡ finish (list-behind h rest)
-  unfolding decode
-  decode-behind h rest e = rw e
+  decode-behind h rest e = decode-marked b ∙ rw (marked-some b some, e)
 
 module _ (h : Header) (b : List ℕ) where
   pub finish-footprints-bad : (j : ℕ) → many (λ _. footprint (h .locations)) 0 (h .footprints) [] b ≡ bad j → finish (list-behind h b) ≡ refused j
@@ -114,3 +139,31 @@ accepted-reading t n e h counts =
     let w : ReadAs (accepted (list-of t)) (record { answer = Count n; tables = t }) =
     record { answer = ap gives same; tables = record { list = refl; counts = counts } } in
     rw (sized-few (list-of t) few) w
+
+-- blank tables with one location and one body hold the empty list
+abbrev one-of-each : Tables → Tables
+one-of-each t =
+    record {
+      locations = 1;
+      footprints = t .footprints;
+      bodies = 1;
+      widths = t .widths;
+      lines = t .lines;
+      sizes = t .sizes;
+      cells = t .cells;
+      counts = t .counts;
+    }
+
+ones : (n s : ℕ) → getD {A = ℕ} (replicate n 1) s 1 ≡ 1
+ones zero s = refl
+ones (suc n) zero = refl
+ones (suc n) (suc s) = ones n s
+
+blank-holds : Holds (one-of-each blank-tables) empty-list
+unfolding blank-tables list-of rows task-count counts count-body total
+blank-holds = record { list = refl; counts = λ s. ones 32 s ∙ sym (ap capped (ones 1 s)) }
+
+pub empty-reading : (t : Tables) → t ≡ blank-tables → ReadAs (accepted empty-list) (record { answer = Count 1; tables = one-of-each t })
+unfolding task-count counts count-body total
+empty-reading t e =
+    record { answer = refl; tables = subst (λ (u : Tables). Holds (one-of-each u) empty-list) (sym e) blank-holds }

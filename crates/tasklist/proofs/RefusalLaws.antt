@@ -11,6 +11,8 @@ use Rattle.tasklist.specs.declared.Header.{Header}
 use Rattle.tasklist.specs.TaskList.{TaskList, task-count}
 use Rattle.tasklist.specs.Fields.{Taken, bad, took, and-then, tested, field, is-tag, tag, in-range, number, counted, many, row}
 use Rattle.tasklist.specs.Decode.{head-numbers, head, is-line, line, footprint, is-instruction, instruction, scope, body, list-behind, Decoded, refused, accepted, sized, finish, decode}
+use Rattle.tasklist.specs.Encode.{marked}
+use Rattle.tasklist.proofs.ReaderLaws.{decode-marked}
 
 abbrev Numbered : {A : Type 0} → Taken A → Type 0
 Numbered (bad k) = 1 ≤ k
@@ -101,6 +103,7 @@ of-end (took l []) h = by-count (leb (task-count l 0) 128)
 of-end (took l (x ∷ rest)) h = omega arith
 
 pub refused-above : (b : List ℕ) (k : ℕ) → decode b ≡ refused k → 1 ≤ k
-unfolding decode
 refused-above b k e =
-    subst Refusing e (of-end (and-then (head b) list-behind) (in-turn (head b) list-behind (of-head b) (λ h x. of-list h x)))
+    let c = marked b in
+    subst Refusing (sym (decode-marked b) ∙ e)
+    (of-end (and-then (head c) list-behind) (in-turn (head c) list-behind (of-head c) (λ h x. of-list h x)))

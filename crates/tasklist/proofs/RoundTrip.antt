@@ -1,4 +1,5 @@
--- Writing what was read gives the bytes again, and reading those gives the same list.
+-- Writing what was read gives the bytes again, those of the marked records where there were none, and reading them gives
+-- the same list.
 use Prim.Native.Nat.{ℕ, zero, suc, _+_, _*_, _/_, _%_, _<_}
 use mathlib.Core.Path.{_≡_, refl, sym, ap, _∙_}
 use mathlib.Core.List.{List, [], _∷_, _++_, append-nil, append-assoc}
@@ -16,10 +17,11 @@ use Rattle.tasklist.specs.declared.Instruction.{Instruction}
 use Rattle.tasklist.specs.declared.Instruction.the-variants.{Const, Add, Sub, Less, Load, Store, Skip, Spawn, Wait}
 use Rattle.tasklist.specs.TaskList.{TaskList}
 use Rattle.tasklist.specs.Fields.{Taken, took, and-then, field, only-if, is-tag, tag, in-range, number, counted, row}
-use Rattle.tasklist.specs.Decode.{head-numbers, head, line-ok, is-line, line, footprint, forms, form, instruction-ok, is-instruction, instruction, scope, body, accepted, decode}
-use Rattle.tasklist.specs.Encode.{instruction-fields, line-fields, joined, footprint-bytes, body-bytes, head-bytes, encode}
+use Rattle.tasklist.specs.Decode.{head-numbers, head, line-ok, is-line, line, footprint, forms, form, instruction-ok, is-instruction, instruction, scope, body, accepted, empty-list, decode}
+use Rattle.tasklist.specs.Encode.{instruction-fields, line-fields, joined, footprint-bytes, body-bytes, head-bytes, encode, marked}
 use Rattle.tasklist.proofs.TakenLaws.{both-true, only-if-some, field-taken, split}
-use Rattle.tasklist.proofs.ChainLaws.{Chain, row-taken, header-of, list-taken}
+use Rattle.tasklist.proofs.ReaderLaws.{decode-again}
+use Rattle.tasklist.proofs.ChainLaws.{Chain, row-taken, header-of, ListTaken, list-taken}
 use Rattle.tasklist.proofs.Guarantees.{kept-some}
 
 abbrev pub Bytes : List ℕ → Type 0
@@ -207,10 +209,9 @@ head-exact b h rest bytes e =
         let t : b₄ ≡ rest = cc in
         λ i. header-bytes (r i) ++ t i
 
-pub encode-decoded : (b : List ℕ) (l : TaskList) → Bytes b → decode b ≡ accepted l → encode l ≡ b
+list-exact : (b : List ℕ) (l : TaskList) → Bytes b → ListTaken b l → encode l ≡ b
 unfolding encode head-bytes
-encode-decoded b l bytes e =
-    let t = list-taken b l e in
+list-exact b l bytes t =
     let b₁ = t .behind-head in
     let b₂ = t .behind-footprints in
     let fs = joined footprint-bytes (l .footprints) in
@@ -222,5 +223,10 @@ encode-decoded b l bytes e =
     (λ bytes₂. chain-exact body-bytes (body (header-of l)) (body-exact (header-of l)) (l .bodies) 0 b₂ [] bytes₂ (t .bodies))) in
     sym (whole ∙ ap (λ (r : List ℕ). head-bytes l ++ (fs ++ r)) (append-nil bs))
 
+pub encode-decoded : (b : List ℕ) (l : TaskList) → Bytes b → decode b ≡ accepted l → encode l ≡ marked b
+unfolding decode marked encode head-bytes joined footprint-bytes body-bytes instruction-fields
+encode-decoded [] l bytes e = let same : l ≡ empty-list = cc in ap encode same
+encode-decoded (x ∷ b) l bytes e = list-exact (x ∷ b) l bytes (list-taken (x ∷ b) l e)
+
 pub decode-encoded : (b : List ℕ) (l : TaskList) → Bytes b → decode b ≡ accepted l → decode (encode l) ≡ accepted l
-decode-encoded b l bytes e = ap decode (encode-decoded b l bytes e) ∙ e
+decode-encoded b l bytes e = ap decode (encode-decoded b l bytes e) ∙ decode-again b ∙ e

@@ -115,5 +115,10 @@ finish (bad k) = refused k
 finish (took l []) = sized l
 finish (took l (x ∷ rest)) = refused 6
 
+-- request 101: "A file of no bytes shall now mean C = 1, no footprints, and one empty sheet."
+abbrev pub empty-list : TaskList
+empty-list = record { locations = 1; footprints = []; bodies = [] ∷ [] }
+
 unfoldable pub decode : List ℕ → Decoded
-decode b = finish (and-then (head b) list-behind)
+decode [] = accepted empty-list
+decode (x ∷ b) = finish (and-then (head (x ∷ b)) list-behind)

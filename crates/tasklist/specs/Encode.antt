@@ -38,3 +38,9 @@ head-bytes l = 0x4A ∷ 0x48 ∷ l .locations ∷ length (l .footprints) ∷ len
 
 unfoldable pub encode : TaskList → List ℕ
 encode l = head-bytes l ++ joined footprint-bytes (l .footprints) ++ joined body-bytes (l .bodies)
+
+-- what a file that was read is written as. Request 101: "The writer still gives the marked records for it, so reading and
+-- then writing gives back every accepted file but the empty one."
+unfoldable pub marked : List ℕ → List ℕ
+marked [] = 0x4A ∷ 0x48 ∷ 1 ∷ 0 ∷ 1 ∷ 0x4A ∷ 0x42 ∷ 0 ∷ []
+marked (x ∷ b) = x ∷ b

@@ -4,7 +4,7 @@ ghost use mathlib.Core.Path.{_≡_};
 ghost use mathlib.Core.List.{[]};
 ghost use lib.ListN.{drop};
 ghost use Rattle.tasklist.specs.Fields.{many};
-ghost use Rattle.tasklist.specs.Decode.{head-numbers, head, footprint, body, list-behind, refused, sized, finish, decode};
+ghost use Rattle.tasklist.specs.Decode.{head-numbers, head, footprint, body, list-behind, refused, accepted, sized, finish, empty-list, decode};
 ghost use Rattle.tasklist.specs.Tables.{blank-tables};
 ghost use Rattle.tasklist.specs.Answers.{refusal-number, checked, check-answer, ReadAs};
 ghost use Rattle.tasklist.specs.Positions.{ended, head-taken, footprint-rows, body-rows};
@@ -215,10 +215,26 @@ fn refusal(k: Refusal) -> Reading
     }
 }
 
+// A file of no bytes: one location, no footprints and one empty body.
+fn read_empty() -> Reading
+    ensures { λ r. ⌜ ReadAs (accepted empty-list) r ⌝ }
+{
+    let mut tables = blank();
+    tables.locations = 1;
+    tables.bodies = 1;
+    Reading {
+        answer: Checked::Count(1),
+        tables,
+    }
+}
+
 // Reads a job list: check's answer and the list's tables.
 pub fn read(bytes: &[u8]) -> Reading
     ensures { λ r. ⌜ ReadAs (decode (now (bytes .entry))) r ⌝ }
 {
+    if bytes.len() == 0 {
+        return read_empty();
+    }
     match take_head(bytes) {
         HeadTaken::Bad(k) => refusal(k),
         HeadTaken::Took(head, at) => read_records(bytes, at, head),

@@ -46,6 +46,9 @@ slice-aggregate-open-files-2 c =
 open-files-requires : tie.Need-open-files-requires
 open-files-requires c κs = search needs
 
+answer-of-requires : tie.Need-answer-of-requires
+answer-of-requires c κs = search needs
+
 open-number-requires : tie.Need-open-number-requires
 open-number-requires c κs = search needs
 
@@ -90,6 +93,7 @@ main-spec =
     array-share-prefix-numbers
     slice-aggregate-open-files-2
     open-files-requires
+    answer-of-requires
     open-number-requires
     serve-requires
     returns

@@ -267,7 +267,7 @@ static void table(void) {
     row("a task of that hand run | OpenMP, same order", HAND_WALL, 0, TASKS, OPENMP_WAITS, 0, TASKS, "1");
     row("a call lent | a call of replay", LENT, 1, PIECE, REPLAY, 1, PIECE, "none");
     printf("%-52s %9s %9s %8s  %s\n", "accepted calls, opening left out", "ns a call", "a second", "", "middle half, ns");
-    calls("  hand run: started, stepped, ended", HAND_PROVED, CALLS);
+    calls("  hand run: changes put in place", HAND_PROVED, CALLS);
     calls("  replay: the public start, step, end", REPLAY, PIECE);
     calls("  lent: start_in, step_in, end_in", LENT, PIECE);
 }

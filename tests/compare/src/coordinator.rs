@@ -280,6 +280,8 @@ pub struct Met {
     /// Lines of calls, and those among them that are not 0.
     pub calls: u64,
     pub refused_calls: u64,
+    /// Calls held back: behind a writer, otherwise.
+    pub held: [u64; 2],
     pub to_the_end: u64,
     /// On how many the two differ, and the smallest case found.
     pub different: usize,
@@ -300,20 +302,26 @@ impl Met {
         }
         let calls = case.input.len().div_ceil(2);
         self.calls += calls as u64;
-        let refused = text.lines().take(calls).filter(|line| *line != "0");
-        self.refused_calls += refused.count() as u64;
+        let answers: Vec<&str> = text.lines().take(calls).collect();
+        let given = |number: &str| answers.iter().filter(|line| **line == number).count() as u64;
+        self.refused_calls += answers.len() as u64 - given("0");
+        self.held[0] += given("19");
+        self.held[1] += given("20");
         self.half_calls += (case.input.len() % 2) as u64;
         self.to_the_end += text.ends_with(" 0\n") as u64;
     }
 
     pub fn words(&self) -> String {
         format!(
-            "{} opened, {} to the end, {} calls with {} refused ones, {} half calls, {} inputs in \
-             pieces, {} with an unreadable file, {} with an empty list; opens refused: {}",
+            "{} opened, {} to the end, {} calls with {} refused ones (19 x {}, 20 x {}), {} half \
+             calls, {} inputs in pieces, {} with an unreadable file, {} with an empty list; opens \
+             refused: {}",
             self.transcripts as u64 - self.refused.iter().sum::<u64>(),
             self.to_the_end,
             self.calls,
             self.refused_calls,
+            self.held[0],
+            self.held[1],
             self.half_calls,
             self.in_pieces,
             self.unreadable,
@@ -437,6 +445,8 @@ mod tests {
             met.in_pieces,
             met.half_calls,
             met.to_the_end,
+            met.held[0],
+            met.held[1],
         ] {
             assert!(count > 20, "{}", met.words());
         }
@@ -451,6 +461,47 @@ mod tests {
     fn found_within(time: Duration, prints: Prints) -> String {
         let met = compare(prints, 2000, 1, time);
         describe(prints, &met.smallest.expect("a case that differs"))
+    }
+
+    /// What a coordinator prints that gives other answers to calls.
+    fn other_answers(case: &Case, other: fn(&str) -> &str) -> Result<Vec<u8>, String> {
+        let text = expected(case);
+        if text.starts_with("refused ") {
+            return Ok(text.into_bytes());
+        }
+        let calls = case.input.len().div_ceil(2);
+        let answer = |(i, line)| if i < calls { other(line) } else { line };
+        let lines: Vec<&str> = text.lines().enumerate().map(answer).collect();
+        Ok((lines.join("\n") + "\n").into_bytes())
+    }
+
+    #[test]
+    fn mismatched_holds_are_found_and_made_small() {
+        let others: [(fn(&str) -> &str, [&str; 2]); 3] = [
+            // One number for both.
+            (
+                |line| {
+                    if ["19", "20"].contains(&line) {
+                        "12"
+                    } else {
+                        line
+                    }
+                },
+                ["12", "19"],
+            ),
+            // Each in place of the other.
+            (|line| if line == "20" { "19" } else { line }, ["19", "20"]),
+            (|line| if line == "19" { "20" } else { line }, ["20", "19"]),
+        ];
+        for (other, [given, right]) in others {
+            let prints = |case: &Case| other_answers(case, other);
+            let met = compare(&prints, 2000, 1, TIME);
+            let case = met.smallest.expect("a case that differs");
+            let text = describe(&prints, &case);
+            assert!(case.input.len() <= 12, "{text}");
+            assert!(text.contains(&format!(" 0 / {given} / ")), "{text}");
+            assert!(text.contains(&format!(" 0 / {right} / ")), "{text}");
+        }
     }
 
     #[test]

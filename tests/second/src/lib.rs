@@ -3,8 +3,8 @@
 //! function per sentence, each sentence named in a comment. Quoted words are document 01's, behind #
 //! and a number document 02's.
 //! Document 01's words and the names here: job = task, entry = location, entries = memory,
-//! sheet = body, place = pc, mark = tag, instructions done = steps, held back = blocked.
-//! A refusal is document 01's number, as `Err(number)`.
+//! sheet = body, place = pc, mark = tag, instructions done = steps.
+//! A refusal is the documents' number, as `Err(number)`.
 
 pub mod case_file;
 pub mod cases;

@@ -213,7 +213,61 @@ fn readers_and_writers() -> Vec<Case> {
         ),
     ];
     cases.push(whole(&nested, &[5, 7]));
+    cases.extend([
+        case(
+            &starts_behind_reader_and_writer(),
+            &[5, 6, 7, 8],
+            "start 0, step 0, step 0, step 0, step 0, step 0, step 0, start 3, start 4, start 5, \
+             start 6, start 2, start 5, start 4, end 2, start 4, start 5, start 1, start 3, end 1, \
+             start 5, start 4, start 3",
+        ),
+        case(
+            &steps_behind_reader_and_writer(),
+            &LIBRARY_P,
+            "start 0, step 0, step 0, step 0, step 0, step 0, start 2, step 0, start 1, end 1, step 0, \
+             step 0, step 0, end 2, step 0",
+        ),
+    ]);
     cases
+}
+
+/// #102: jobs 1 to 6 in this order: one reads entries 0, 2 and 3; one writes 1; one writes 2; one writes 0
+/// and reads 1; one reads 1 and writes 3; one has no entry.
+pub fn starts_behind_reader_and_writer() -> Vec<u8> {
+    let spawns: Vec<Instruction> = (0..6).map(|footprint| spawn(1, footprint)).collect();
+    list(
+        4,
+        &[
+            &[read_line(0), read_line(2), read_line(3)],
+            &[write_line(1)],
+            &[write_line(2)],
+            &[write_line(0), read_line(1)],
+            &[read_line(1), write_line(3)],
+            &[],
+        ],
+        &[&spawns, &[]],
+    )
+}
+
+/// #102: job 1 reads entry 0 and job 2 writes entry 1; job 0 loads entry 0 and stores to it, then it
+/// loads entry 1.
+pub fn steps_behind_reader_and_writer() -> Vec<u8> {
+    list(
+        2,
+        &[&[read_line(0)], &[write_line(1)]],
+        &[
+            &[
+                spawn(1, 0),
+                spawn(1, 1),
+                constant(2, 1),
+                Instruction::Load { a: 1, b: 0 },
+                Instruction::Store { a: 0, b: 1 },
+                Instruction::Add { a: 0, b: 0, c: 2 },
+                Instruction::Load { a: 1, b: 0 },
+            ],
+            &[],
+        ],
+    )
 }
 
 fn faults() -> Vec<Case> {

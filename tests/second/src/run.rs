@@ -10,8 +10,6 @@ pub const ABOVE_127: u32 = 9;
 pub const NOT_IN_ORDER: u32 = 10;
 /// "11 already started"
 pub const ALREADY_STARTED: u32 = 11;
-/// "12 held back"
-pub const BLOCKED: u32 = 12;
 /// "13 not started"
 pub const NOT_STARTED: u32 = 13;
 /// "14 at its end"
@@ -20,6 +18,10 @@ pub const AT_ITS_END: u32 = 14;
 pub const NOT_AT_ITS_END: u32 = 15;
 /// "16 entry not below C"
 pub const NO_SUCH_LOCATION: u32 = 16;
+/// #102: "19 where a job of mode write is ahead in one of these queues"
+pub const BEHIND_A_WRITER: u32 = 19;
+/// #102: "20 for any other hold"
+pub const OTHER_HOLD: u32 = 20;
 
 /// "128 records"
 pub const RECORDS: usize = 128;
@@ -147,7 +149,6 @@ pub fn may_write(run: &Run, task: usize, location: usize) -> bool {
 /// "What the job's own mode there allows": reading in mode 1, writing in mode 2.
 fn may_use_own_mode(run: &Run, task: usize, location: usize) -> bool {
     match run.records[task].modes[location] {
-        NONE => true,
         READ => may_read(run, task, location),
         _ => may_write(run, task, location),
     }
@@ -222,26 +223,52 @@ fn test_started(run: &Run, number: u32) -> Result<usize, u32> {
     Ok(task)
 }
 
-/// "Start: 9 number above 127; 10 not in the order; 11 already started; 12 held back." Else the job.
+/// "Start: 9 number above 127; 10 not in the order; 11 already started; 12 held back." #102: 19 and 20,
+/// "both at 12's place". Else the job.
 pub fn test_start(run: &Run, number: u32) -> Result<usize, u32> {
     let task = test_number(run, number)?;
     if run.records[task].state == STARTED {
         return Err(ALREADY_STARTED);
     }
-    if !start_may_go(run, task) {
-        return Err(BLOCKED);
+    let footprint = footprint_of(run, task);
+    if !start_may_go(run, task, &footprint) {
+        return Err(kind_of_hold(run, task, &footprint));
     }
     Ok(task)
 }
 
-/// "Start: the job may read each entry of mode 1 and write each of mode 2".
-fn start_may_go(run: &Run, task: usize) -> bool {
+/// #102: "For a start, all entries of the footprint count".
+fn footprint_of(run: &Run, task: usize) -> Vec<usize> {
+    let mut footprint = Vec::new();
     for location in 0..run.list.locations {
-        if !may_use_own_mode(run, task, location) {
+        if run.records[task].modes[location] != NONE {
+            footprint.push(location);
+        }
+    }
+    footprint
+}
+
+/// "Start: the job may read each entry of mode 1 and write each of mode 2".
+fn start_may_go(run: &Run, task: usize, footprint: &[usize]) -> bool {
+    for location in footprint {
+        if !may_use_own_mode(run, task, *location) {
             return false;
         }
     }
     true
+}
+
+/// #102: "19 where a job of mode write is ahead in one of these queues, 20 for any other hold". Only
+/// asked when the job is held back.
+fn kind_of_hold(run: &Run, task: usize, locations: &[usize]) -> u32 {
+    for location in locations {
+        for other in ahead_of(run, task, *location) {
+            if run.records[other].modes[*location] == WRITE {
+                return BEHIND_A_WRITER;
+            }
+        }
+    }
+    OTHER_HOLD
 }
 
 /// "Start: ...; its state becomes 2."
@@ -252,7 +279,8 @@ pub fn start(run: &mut Run, number: u32) -> Result<(), u32> {
     Ok(())
 }
 
-/// "Step: 9; 10; 13 not started; 14 at its end; 12." "Faults come before waiting." Else the job.
+/// "Step: 9; 10; 13 not started; 14 at its end; 12." #102: 19 and 20, "both at 12's place". "Faults
+/// come before waiting." Else the job.
 pub fn test_step(run: &Run, number: u32) -> Result<usize, u32> {
     let task = test_started(run, number)?;
     if at_its_end(run, task) {
@@ -260,9 +288,22 @@ pub fn test_step(run: &Run, number: u32) -> Result<usize, u32> {
     }
     let instruction = instruction_at(run, task);
     if fault_of(run, task, &instruction) == 0 && !step_may_go(run, task, &instruction) {
-        return Err(BLOCKED);
+        let concerned = entry_concerned(run, task, &instruction);
+        return Err(kind_of_hold(run, task, &concerned));
     }
     Ok(task)
+}
+
+/// #102: "for a step, the one entry concerned"; none where the instruction never waits. Only asked when
+/// the step has no fault.
+fn entry_concerned(run: &Run, task: usize, instruction: &Instruction) -> Vec<usize> {
+    let registers = run.records[task].registers;
+    match instruction {
+        Instruction::Load { b, .. } => vec![registers[*b as usize] as usize],
+        Instruction::Store { a, .. } => vec![registers[*a as usize] as usize],
+        Instruction::Wait { a } => vec![registers[*a as usize] as usize],
+        _ => Vec::new(),
+    }
 }
 
 /// "Load needs reading, store needs writing, wait needs what the job's own mode there allows. Const,

@@ -45,7 +45,7 @@ fn the_stored_cases_reach_every_answer() {
         [0, 1, 2, 3, 4, 5, 6, 7, 8]
     );
     let answers = distinct(numbers(&text, "calls"));
-    assert_eq!(answers, [0, 9, 10, 11, 12, 13, 14, 15]);
+    assert_eq!(answers, [0, 9, 10, 11, 13, 14, 15, 19, 20]);
     let mut faults = Vec::new();
     for line in text.lines().filter(|line| line.starts_with("hand record ")) {
         faults.push(line.split(' ').nth(11).unwrap().parse().unwrap());

@@ -2,7 +2,10 @@
 //! document 02 too.
 
 use second::cases::{doubling_list, library_bytes, EXAMPLE_P};
-use second::named::{constant, list, read_line, spawn, write_line, LIBRARY_P};
+use second::named::{
+    constant, list, read_line, spawn, starts_behind_reader_and_writer,
+    steps_behind_reader_and_writer, write_line, LIBRARY_P,
+};
 use second::run::{may_read, never_made, ENDED, STARTED, WAITING};
 use second::*;
 
@@ -21,6 +24,11 @@ fn start_and_step(run: &mut Run, task: u32, steps: usize) {
     for _ in 0..steps {
         assert_eq!(step(run, task), Ok(()));
     }
+}
+
+fn start_and_end(run: &mut Run, task: u32) {
+    assert_eq!(start(run, task), Ok(()));
+    assert_eq!(end(run, task), Ok(()));
 }
 
 #[test]
@@ -73,8 +81,9 @@ fn p_orders_and_queues() {
     assert_eq!(queue_of(&run, 1), [514, 512]);
     assert_eq!((run.calls, run.weight), (3, 21));
 
+    // #102: "start 2 now gives 19"
     let before = run.clone();
-    assert_eq!(start(&mut run, 2), Err(12));
+    assert_eq!(start(&mut run, 2), Err(19));
     assert_eq!(run, before);
     assert_eq!(start(&mut run, 1), Ok(()));
     assert_eq!(end(&mut run, 0), Ok(()));
@@ -118,9 +127,10 @@ fn two_readers_start_beside_each_other() {
     assert!(may_read(&run, 0, 0));
     assert_eq!(step(&mut run, 0), Ok(()));
     assert_eq!(run.records[0].registers, [0, 5, 0, 0]);
-    assert_eq!(step(&mut run, 0), Err(12));
+    // #102: "the store behind two readers 20"
+    assert_eq!(step(&mut run, 0), Err(20));
     assert_eq!(end(&mut run, 1), Ok(()));
-    assert_eq!(step(&mut run, 0), Err(12));
+    assert_eq!(step(&mut run, 0), Err(20));
     assert_eq!(end(&mut run, 2), Ok(()));
     assert_eq!(step(&mut run, 0), Ok(()));
 }
@@ -136,11 +146,96 @@ fn a_writer_does_not_pass_a_reader() {
     start_and_step(&mut run, 0, 3);
     assert_eq!(run.order, [1, 2, 3, 0]);
     assert_eq!(start(&mut run, 1), Ok(()));
-    assert_eq!(start(&mut run, 2), Err(12));
-    assert_eq!(start(&mut run, 3), Err(12));
+    // A writer behind a reader, and a reader behind a writer that waits.
+    assert_eq!(start(&mut run, 2), Err(20));
+    assert_eq!(start(&mut run, 3), Err(19));
     assert_eq!(end(&mut run, 1), Ok(()));
     assert_eq!(start(&mut run, 2), Ok(()));
-    assert_eq!(start(&mut run, 3), Err(12));
+    assert_eq!(start(&mut run, 3), Err(19));
+    assert_eq!(end(&mut run, 2), Ok(()));
+    assert_eq!(start(&mut run, 3), Ok(()));
+}
+
+/// #102: "For a start, all entries of the footprint count".
+#[test]
+fn a_start_looks_at_every_entry_of_the_footprint() {
+    let bytes = starts_behind_reader_and_writer();
+    let mut run = open(&bytes, &[5, 6, 7, 8]).unwrap();
+    start_and_step(&mut run, 0, 6);
+    assert_eq!(run.order, [1, 2, 3, 4, 5, 6, 0]);
+    // Behind the reader 1; the writer 2 is ahead of it, but not in its queue.
+    assert_eq!(start(&mut run, 3), Err(20));
+    // Behind the reader at one entry and the writer at another, the reader's entry first or last.
+    assert_eq!(start(&mut run, 4), Err(19));
+    assert_eq!(start(&mut run, 5), Err(19));
+    // In no queue.
+    assert_eq!(start(&mut run, 6), Ok(()));
+    // The writer waited till here; it counts too when it has started, and no longer when it has ended.
+    assert_eq!(start(&mut run, 2), Ok(()));
+    assert_eq!(start(&mut run, 4), Err(19));
+    assert_eq!(start(&mut run, 5), Err(19));
+    assert_eq!(end(&mut run, 2), Ok(()));
+    assert_eq!(start(&mut run, 4), Err(20));
+    assert_eq!(start(&mut run, 5), Err(20));
+    start_and_end(&mut run, 1);
+    for task in [5, 4, 3] {
+        assert_eq!(start(&mut run, task), Ok(()));
+    }
+}
+
+/// #102: "for a step, the one entry concerned".
+#[test]
+fn a_step_looks_at_one_entry() {
+    let bytes = steps_behind_reader_and_writer();
+    let mut run = open(&bytes, &LIBRARY_P).unwrap();
+    start_and_step(&mut run, 0, 3);
+    assert_eq!(run.order, [1, 2, 0]);
+    // Load and store at entry 0, where the reader is ahead.
+    assert_eq!(step(&mut run, 0), Ok(()));
+    assert_eq!(step(&mut run, 0), Err(20));
+    start_and_end(&mut run, 1);
+    assert_eq!(step(&mut run, 0), Ok(()));
+    // Then the load at entry 1, where the writer is.
+    assert_eq!(step(&mut run, 0), Ok(()));
+    assert_eq!(step(&mut run, 0), Err(19));
+    start_and_end(&mut run, 2);
+    assert_eq!(step(&mut run, 0), Ok(()));
+}
+
+/// #102: each kind of step behind jobs of each mode. The writer counts wherever it stands ahead.
+#[test]
+fn each_step_behind_each_mode() {
+    let load = Instruction::Load { a: 1, b: 0 };
+    let store = Instruction::Store { a: 0, b: 1 };
+    let wait = Instruction::Wait { a: 0 };
+    for (footprints, load_gives, others_give) in [
+        (&[0, 0][..], Ok(()), Err(20)),
+        (&[1], Err(19), Err(19)),
+        (&[0, 1], Err(19), Err(19)),
+        (&[1, 0], Err(19), Err(19)),
+        (&[0, 1, 0], Err(19), Err(19)),
+        // Footprint 2 has no entry.
+        (&[2, 2], Ok(()), Ok(())),
+        (&[2, 0, 2], Ok(()), Err(20)),
+    ] {
+        for instruction in [load, store, wait] {
+            let mut root: Vec<Instruction> = footprints.iter().map(|f| spawn(1, *f)).collect();
+            root.push(instruction);
+            let bytes = list(1, &[&[read_line(0)], &[write_line(0)], &[]], &[&root, &[]]);
+            let mut run = open(&bytes, &[5]).unwrap();
+            start_and_step(&mut run, 0, footprints.len());
+            let expected = if instruction == load {
+                load_gives
+            } else {
+                others_give
+            };
+            assert_eq!(
+                step(&mut run, 0),
+                expected,
+                "{footprints:?} {instruction:?}"
+            );
+        }
+    }
 }
 
 #[test]
@@ -270,7 +365,7 @@ fn wait_follows_the_own_mode() {
     );
     let mut run = open(&bytes, &[5]).unwrap();
     start_and_step(&mut run, 0, 2);
-    assert_eq!(step(&mut run, 0), Err(12));
+    assert_eq!(step(&mut run, 0), Err(20));
     start_and_step(&mut run, 2, 3);
     let record = record(&run, 2).unwrap();
     assert_eq!((record.fault, record.weight), (1, 8));
@@ -477,7 +572,7 @@ fn coordinator_lines() {
     let input = [0x00, 0x00, 0x01, 0x00, 0x01, 0x00, 0x00, 0x02];
     assert_eq!(
         transcript(&EXAMPLE_P, &library, &input),
-        "0\n0\n0\n12\n5\n7\n3 21 3\n"
+        "0\n0\n0\n19\n5\n7\n3 21 3\n"
     );
     assert_eq!(transcript(&EXAMPLE_P, &library, &[]), "5\n7\n0 0 1\n");
     // Another kind, a number above 127, half a call.

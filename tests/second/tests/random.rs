@@ -44,9 +44,9 @@ fn assert_demand_3(run: &Run, hand: &Run, accepted: u64) {
 /// What the random orders met.
 #[derive(Default)]
 struct Met {
-    start_refusals: [u64; 20],
-    step_refusals: [u64; 20],
-    end_refusals: [u64; 20],
+    start_refusals: [u64; 21],
+    step_refusals: [u64; 21],
+    end_refusals: [u64; 21],
     faults: [u64; 4],
     most_jobs: u64,
     most_in_order: usize,
@@ -104,11 +104,11 @@ fn demand_3_on_random_lists() {
     }
     // The cases reach every refusal, every fault and large trees.
     for (refusals, expected) in [
-        (met.start_refusals, &[9, 10, 11, 12][..]),
-        (met.step_refusals, &[9, 10, 12, 13, 14]),
+        (met.start_refusals, &[9, 10, 11, 19, 20][..]),
+        (met.step_refusals, &[9, 10, 13, 14, 19, 20]),
         (met.end_refusals, &[9, 10, 13, 15]),
     ] {
-        let reached: Vec<usize> = (0..20).filter(|refusal| refusals[*refusal] > 0).collect();
+        let reached: Vec<usize> = (0..21).filter(|refusal| refusals[*refusal] > 0).collect();
         assert_eq!(reached, expected);
     }
     println!("step refusals {:?}", met.step_refusals);
@@ -162,7 +162,7 @@ fn a_refusal_leaves_the_run_unchanged() {
                         copy = run.clone();
                     }
                     Err(refusal) => {
-                        assert!((9..16).contains(&refusal));
+                        assert!([9, 10, 11, 13, 14, 15, 19, 20].contains(&refusal));
                         assert_eq!(task > 127, refusal == 9);
                         assert_eq!(copy, before);
                     }

@@ -2,7 +2,7 @@
 
 use second::coordinator::{call, open_files};
 use second::list::Instruction;
-use second::run::{may_read, may_write, queue_of, Run, READ, RECORDS, WRITE};
+use second::run::{queue_of, Run, BEHIND_A_WRITER, NONE, OTHER_HOLD, READ, RECORDS, WRITE};
 
 /// Who holds a call back, and at which entry.
 #[derive(Clone, Copy, Debug, PartialEq, Eq)]
@@ -68,16 +68,21 @@ fn make_call(run: &mut Run, bytes: &[u8]) -> Event {
             .iter()
             .copied()
             .find(|other| !order.contains(other)),
-        held: held.filter(|_| answer == 12),
+        held: held.filter(|_| is_hold(answer)),
         states: run.records.iter().map(|record| record.state).collect(),
     }
+}
+
+/// The call is held back.
+fn is_hold(answer: u32) -> bool {
+    answer == BEHIND_A_WRITER || answer == OTHER_HOLD
 }
 
 /// A call's word: of a step the instruction's name, if it came to that.
 fn word_of(kind: u8, answer: u32, instruction: Option<Instruction>) -> &'static str {
     match (kind, instruction) {
         (0, _) => "start",
-        (1, Some(instruction)) if answer == 0 || answer == 12 => name(&instruction),
+        (1, Some(instruction)) if answer == 0 || is_hold(answer) => name(&instruction),
         (1, _) => "step",
         (2, _) => "end",
         _ => "?",
@@ -107,7 +112,8 @@ fn name(instruction: &Instruction) -> &'static str {
     }
 }
 
-/// The first entry that the call needs and may not have, and the first job ahead that is in the way there.
+/// The first entry at which a job of mode write is ahead, and that job; where there is none, the first entry that the call
+/// needs to write and at which some job is ahead, and that job.
 fn held_back(run: &Run, kind: u8, job: usize, instruction: Option<Instruction>) -> Option<Held> {
     if job >= RECORDS || !run.order.contains(&job) {
         return None;
@@ -117,16 +123,18 @@ fn held_back(run: &Run, kind: u8, job: usize, instruction: Option<Instruction>) 
     } else {
         step_needs(run, job, instruction?)
     };
-    needs
-        .into_iter()
-        .find_map(|(entry, mode)| holder(run, job, entry, mode))
+    let writer = needs
+        .iter()
+        .find_map(|(entry, _)| first_ahead(run, job, *entry, |mode| mode == WRITE));
+    let mut written = needs.iter().filter(|(_, mode)| *mode == WRITE);
+    writer.or_else(|| written.find_map(|(entry, _)| first_ahead(run, job, *entry, |_| true)))
 }
 
 fn start_needs(run: &Run, job: usize) -> Vec<(usize, u8)> {
     let modes = &run.records[job].modes;
     (0..run.list.locations)
         .map(|entry| (entry, modes[entry]))
-        .filter(|need| need.1 != 0)
+        .filter(|need| need.1 != NONE)
         .collect()
 }
 
@@ -148,23 +156,12 @@ fn step_needs(run: &Run, job: usize, instruction: Instruction) -> Vec<(usize, u8
     }
 }
 
-/// The first job ahead in an entry's queue that keeps this one from reading or writing it.
-fn holder(run: &Run, job: usize, entry: usize, mode: u8) -> Option<Held> {
-    let free = if mode == READ {
-        may_read(run, job, entry)
-    } else {
-        may_write(run, job, entry)
-    };
-    if free {
-        return None;
-    }
-    let in_the_way = |other: &usize| mode != READ || run.records[*other].modes[entry] != READ;
-    let ahead = queue_of(run, entry)
+/// The first job ahead in an entry's queue with such a mode there.
+fn first_ahead(run: &Run, job: usize, entry: usize, such: impl Fn(u8) -> bool) -> Option<Held> {
+    queue_of(run, entry)
         .into_iter()
-        .take_while(|other| *other != job);
-    ahead
-        .into_iter()
-        .find(in_the_way)
+        .take_while(|other| *other != job)
+        .find(|other| such(run.records[*other].modes[entry]))
         .map(|job| Held { job, entry })
 }
 
@@ -172,12 +169,12 @@ fn holder(run: &Run, job: usize, entry: usize, mode: u8) -> Option<Held> {
 mod tests {
     use super::*;
 
-    /// Who holds which call of an example back, with the call's number from 1 on.
-    fn held_in(jobs: &[u8], library: &[u8], calls: &[u8]) -> Vec<(usize, Held)> {
+    /// Which calls of an example are held back, by their numbers from 1 on; the answers, and who holds them.
+    fn held_in(jobs: &[u8], library: &[u8], calls: &[u8]) -> Vec<(usize, u32, Held)> {
         let events = follow(jobs, library, calls).unwrap().events;
         let numbered = events.iter().enumerate();
         numbered
-            .filter_map(|(i, event)| event.held.map(|held| (i + 1, held)))
+            .filter_map(|(i, event)| event.held.map(|held| (i + 1, event.answer, held)))
             .collect()
     }
 
@@ -196,16 +193,33 @@ mod tests {
         let (jobs, library, calls) = example!("p");
         assert_eq!(
             held_in(jobs, library, calls),
-            [(4, Held { job: 1, entry: 0 })]
+            [(4, 19, Held { job: 1, entry: 0 })]
         );
     }
 
     #[test]
     fn the_store_waits_for_each_reader() {
         let (jobs, library, calls) = example!("readers");
-        let first = (9, Held { job: 1, entry: 0 });
-        let second = (16, Held { job: 2, entry: 0 });
+        let first = (9, 20, Held { job: 1, entry: 0 });
+        let second = (16, 20, Held { job: 2, entry: 0 });
         assert_eq!(held_in(jobs, library, calls), [first, second]);
+    }
+
+    /// Behind readers and a writer, at different entries: the writer is shown.
+    #[test]
+    fn a_writer_is_shown_before_readers() {
+        let jobs = second::named::starts_behind_reader_and_writer();
+        let calls = [
+            0, 0, 1, 0, 1, 0, 1, 0, 1, 0, 1, 0, 1, 0, 0, 3, 0, 4, 0, 5, 0, 6,
+        ];
+        assert_eq!(
+            held_in(&jobs, &[0; 16], &calls),
+            [
+                (8, 20, Held { job: 1, entry: 2 }),
+                (9, 19, Held { job: 2, entry: 1 }),
+                (10, 19, Held { job: 2, entry: 1 }),
+            ]
+        );
     }
 
     #[test]

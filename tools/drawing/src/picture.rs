@@ -2,6 +2,7 @@
 
 use crate::history::{Event, History};
 use crate::svg::{Anchor, Svg};
+use second::run::{BEHIND_A_WRITER, OTHER_HOLD};
 
 /// Calls to a band, and the sizes of its parts.
 const BAND: usize = 20;
@@ -47,8 +48,12 @@ const FAULT: Look = Look {
     cell: "fill=\"#c8102e\"",
     text: WHITE,
 };
-const HELD: Look = Look {
+const WRITER: Look = Look {
     cell: "fill=\"#ffb84d\" stroke=\"#c77700\" stroke-width=\"2\"",
+    text: DARK,
+};
+const OTHER: Look = Look {
+    cell: "fill=\"#fff2d9\" stroke=\"#c77700\" stroke-width=\"2\"",
     text: DARK,
 };
 const REFUSED: Look = Look {
@@ -178,7 +183,13 @@ fn draw_held(svg: &mut Svg, x: i64, cell_y: i64, holder_y: i64, entry: usize) {
 
 fn look_of(event: &Event) -> &'static Look {
     match event {
-        Event { answer: 12, .. } => &HELD,
+        Event {
+            answer: BEHIND_A_WRITER,
+            ..
+        } => &WRITER,
+        Event {
+            answer: OTHER_HOLD, ..
+        } => &OTHER,
         Event { answer: 1.., .. } => &REFUSED,
         Event { fault: 1.., .. } => &FAULT,
         Event { word: "start", .. } => &START,
@@ -215,8 +226,8 @@ fn said(number: usize, event: &Event) -> String {
         Event {
             held: Some(held), ..
         } => format!(
-            "{call} is held back (12) by job {} at entry {}",
-            held.job, held.entry
+            "{call} is held back ({}) by job {} at entry {}",
+            event.answer, held.job, held.entry
         ),
         Event { answer: 1.., .. } => format!("{call} is refused, {}", event.answer),
         Event { fault: 1.., .. } => format!("{call} faults, fault {}", event.fault),
@@ -228,14 +239,15 @@ fn said(number: usize, event: &Event) -> String {
 }
 
 fn draw_legend(svg: &mut Svg, y: i64) -> i64 {
-    let marks: [(&str, &str); 9] = [
+    let marks: [(&str, &str); 10] = [
         (START.cell, "start"),
         (STEP.cell, "step"),
         (SPAWN.cell, "spawn"),
         (END.cell, "end"),
         (FAULT.cell, "faulting step"),
-        (HELD.cell, "held back (12)"),
-        (REFUSED.cell, "refused, with its number"),
+        (WRITER.cell, "behind a writer (19)"),
+        (OTHER.cell, "other hold (20)"),
+        (REFUSED.cell, "refused"),
         (WAITING, "waiting"),
         (STARTED, "started"),
     ];

@@ -18,7 +18,7 @@ pub fn of_word(x: u32) -> u64
     x as u64
 }
 
-// 9 to 17.
+// 9 to 17, 19 and 20.
 pub fn refusal_number(refusal: CallRefusal) -> u64
     ensures { λ r. ⌜ r ≡ refusal-number refusal ⌝ }
 {
@@ -26,7 +26,8 @@ pub fn refusal_number(refusal: CallRefusal) -> u64
         CallRefusal::Number => 9,
         CallRefusal::Absent => 10,
         CallRefusal::Started => 11,
-        CallRefusal::Blocked => 12,
+        CallRefusal::BehindWriter => 19,
+        CallRefusal::BehindOthers => 20,
         CallRefusal::Waiting => 13,
         CallRefusal::Finished => 14,
         CallRefusal::Unfinished => 15,

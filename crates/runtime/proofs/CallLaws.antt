@@ -19,10 +19,10 @@ use Rattle.semantics.specs.declared.Record.{Record}
 use Rattle.semantics.specs.declared.CallRefusal.{CallRefusal}
 use Rattle.semantics.specs.declared.Answer.the-variants as Answers
 use Rattle.semantics.specs.Run.{Task, context, fixed-weights, weight-of, task-of}
-use Rattle.semantics.specs.Access.{Access, every, allowed}
+use Rattle.semantics.specs.Access.{Access, every}
 use Rattle.semantics.specs.Effect.{Effect, keep, in-state}
 use Rattle.semantics.specs.Plan.{Action, start, «end», at-end, needs-from, plan-start, plan-end, plan}
-use Rattle.semantics.specs.Call.{after-all, refuse, accept, hold, admit, settle, among, decide, edited, charged, written, splice, stays, places, changes, apply}
+use Rattle.semantics.specs.Call.{after-all, refuse, accept, admit, settle, among, decide, edited, charged, written, splice, stays, places, changes, apply}
 use Rattle.semantics.specs.Answers.{refusal-number, answer-number, outcome-number, task-from}
 use Rattle.semantics.specs.Sound.{In, Sound}
 use Rattle.semantics.proofs.Order.{splice-same, splice-other}
@@ -30,13 +30,15 @@ use Rattle.semantics.proofs.Decide.{decide-accept}
 use Rattle.semantics.proofs.SoundKept.{sound-kept}
 use Rattle.semantics.proofs.Bounds.{order-below, calls-most, fixed-light, weight-most, weights-most}
 use Rattle.semantics.proofs.Unchanged.{after-refuse, after-accept}
+use Rattle.semantics.proofs.Search.{Asks, start-asks}
 use Rattle.tables.specs.Rows.{row}
 use Rattle.tables.specs.Places.{without, place-of}
-use Rattle.tables.specs.Ahead.{clear}
+use Rattle.tables.specs.Ahead.{hold-ahead}
+use Rattle.tables.specs.declared.Hold.{Hold}
 use Rattle.tables.specs.declared.Place.{Place}
 use Rattle.tables.specs.declared.Place.the-variants as Places
 use Rattle.tables.proofs.SpliceLaws.{placed, unplaced, without-splice}
-use Rattle.tables.proofs.SearchLaws.{all-allowed}
+use Rattle.tables.proofs.SearchLaws.{outcome-by, admit-by}
 use Rattle.runtime.specs.declared.Run.{Run}
 use Rattle.runtime.specs.declared.Called.{Called}
 use Rattle.runtime.specs.View.{tasks-from, model, context-of, SoundRun, blank-record}
@@ -93,10 +95,8 @@ module _ (run : Run) (n : ℕ) where
 
       start-settled :
           task-of (model run) n .state ≡ 1
-          → decided run start n
-          ≡ cond (every (allowed (model run) n) (needs-from 0 (task-of (model run) n .modes)))
-          (accept (start-effect run n)) (refuse 12)
-      unfolding plan plan-start settle admit hold
+          → decided run start n ≡ admit (model run) n (needs-from 0 (task-of (model run) n .modes)) (start-effect run n)
+      unfolding plan plan-start settle
       start-settled h = by-plan start ∙ rw (eq-eqb (task-of (model run) n .state) 1 h) refl
 
       pub end-early : (task-of (model run) n .state ≡ 2 → ⊥) → decided run «end» n ≡ refuse 13
@@ -136,11 +136,11 @@ module _ (run : Run) (s : SoundRun run) where
       sym (ap (λ t. t .modes) (own-task k (order-below (context-of run) list-accepted (model run) (s .sound .valid) k i)))
 
   -- the search from the front is the model's look at the tasks ahead
-  looks-ahead :
-      (n place : ℕ) (gs : List Access) → Placed run n place
-      → every (clear (run .modes) (take place (run .order))) gs ≡ every (allowed (model run) n) gs
-  looks-ahead n place gs p =
-      ap (λ l. every (clear (run .modes) l) gs) (sym (p .ahead-of)) ∙ all-allowed (model run) n (run .modes) rows-same gs
+  pub looks-ahead :
+      (n place : ℕ) (gs : List Access) → Placed run n place → ((g : Access) → In g gs → Asks (model run) n g) → (h : Hold)
+      → h ≡ hold-ahead (run .modes) (take place (run .order)) gs → (e : Effect) → admit (model run) n gs e ≡ outcome-by h e
+  looks-ahead n place gs p asks h q e =
+      admit-by (model run) n (run .modes) rows-same gs asks h (q ∙ ap (λ l. hold-ahead (run .modes) l gs) (sym (p .ahead-of))) e
 
 -- The place that was found, in the code's terms.
 module _ (run : Run) (n : ℕ) (below : n < 128) (p : Place)
@@ -188,25 +188,22 @@ module _ (run : Run) (n : ℕ) (below : n < 128) (s : SoundRun run) where
     pub started-again : (record-of run n .state ≡ 1 → ⊥) → decided run start n ≡ refuse 11
     started-again h = start-again run n below (p .listed) (λ q. h (sym own-state ∙ q))
 
-    -- what the search says of the wanted modes
-    module _ (ready : record-of run n .state ≡ 1) (wanted : List ℕ) (same : wanted ≡ row n (run .modes)) (b : Bool)
-        (searched : b ≡ not (every (clear (run .modes) (take place (run .order))) (needs-from 0 wanted)))
+    -- what the search says of the task's accesses
+    pub start-looked :
+        record-of run n .state ≡ 1 → (gs : List Access) → gs ≡ needs-from 0 (row n (run .modes)) → (h : Hold)
+        → h ≡ hold-ahead (run .modes) (take place (run .order)) gs → (x : Hold) → h ≡ x
+        → decided run start n ≡ outcome-by x (start-effect run n)
+    start-looked ready gs same h q x is =
+        start-settled run n below (p .listed) (own-state ∙ ready)
+        ∙ looks-ahead run s n place needs p (start-asks (model run) n) h
+        (q ∙ ap (hold-ahead (run .modes) (take place (run .order))) (same ∙ own-needs)) (start-effect run n)
+        ∙ ap (λ y. outcome-by y (start-effect run n)) is
       where
-        passing : every (clear (run .modes) (take place (run .order))) (needs-from 0 wanted) ≡ every (allowed (model run) n) (needs-from 0 (task-of (model run) n .modes))
-        passing =
-            looks-ahead run s n place (needs-from 0 wanted) p
-            ∙ ap (λ ms. every (allowed (model run) n) (needs-from 0 ms)) (same ∙ sym (ap (λ t. t .modes) (own-task run s n below)))
+        needs : List Access
+        needs = needs-from 0 (task-of (model run) n .modes)
 
-        start-by : (t : Bool) → every (allowed (model run) n) (needs-from 0 (task-of (model run) n .modes)) ≡ t
-            → decided run start n ≡ cond t (accept (start-effect run n)) (refuse 12)
-        start-by t q =
-            start-settled run n below (p .listed) (own-state ∙ ready) ∙ ap (λ x. cond x (accept (start-effect run n)) (refuse 12)) q
-
-        pub start-blocked : b ≡ true → decided run start n ≡ refuse 12
-        start-blocked q = start-by false (sym passing ∙ not-true _ (sym searched ∙ q))
-
-        pub start-free : b ≡ false → decided run start n ≡ accept (start-effect run n)
-        start-free q = start-by true (sym passing ∙ not-false _ (sym searched ∙ q))
+        own-needs : needs-from 0 (row n (run .modes)) ≡ needs
+        own-needs = ap (needs-from 0) (sym (ap (λ t. t .modes) (own-task run s n below)))
 
     pub end-waiting : (record-of run n .state ≡ 2 → ⊥) → decided run «end» n ≡ refuse 13
     end-waiting h = end-early run n below (p .listed) (λ q. h (sym own-state ∙ q))

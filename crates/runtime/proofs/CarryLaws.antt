@@ -226,13 +226,6 @@ module _ (run : Run) (n : ℕ) (below : n < 128) (s : SoundRun run) where
     onward-whole =
         applied-whole run s n below own (run .order) (run .left) w false same-weight light same-order (s .order) (s .left)
 
--- a plan that is held back is not carried out
-pub held-carried : (run : Run) (n place w : ℕ) → Carries n place w Planned.Held run run
-held-carried run n place w = record { list = refl; effect = λ s q light e h d. absurd (refused e (unfold planned in h)) }
-  where
-    refused : (e : Effect) → refuse 12 ≡ accept e → ⊥
-    refused e q = let z : _≡_ {A = ℕ} 0 1 = cc in let bad : ⊥ = omega arith in bad
-
 -- A plan that changes the task's own record alone.
 module _ (run : Run) (n place w : ℕ) (below : n < 128) where
   own-carried :
@@ -487,7 +480,7 @@ module _ (run : Run) (n place w : ℕ) (below : n < 128) where
           ap made-by (d ∙ by-grant (denied k) (ap (λ x. granted-by x (g .modes)) q) s) ∙ (unfold plan-spawn settle admit every in refl)
 
 abbrev pub holds-back : StepPlan → Bool
-holds-back Planned.Held = true
+holds-back (Planned.Held k) = true
 holds-back (Planned.Fault k) = false
 holds-back (Planned.Assign a v) = false
 holds-back (Planned.Pass k) = false
@@ -501,7 +494,7 @@ module _ (run : Run) (n w : ℕ) where
 
   accepted-plan : (p : StepPlan) → holds-back p ≡ false → planned run n w p ≡ accept (plan-effect p)
   unfolding planned
-  accepted-plan Planned.Held h = absurd (false≢true (sym h))
+  accepted-plan (Planned.Held k) h = absurd (false≢true (sym h))
   accepted-plan (Planned.Fault k) h = refl
   accepted-plan (Planned.Assign a v) h = refl
   accepted-plan (Planned.Pass k) h = refl

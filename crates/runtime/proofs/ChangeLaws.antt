@@ -13,7 +13,6 @@ use Rattle.tasklist.specs.TaskList.{body-of}
 use Rattle.tasklist.specs.Tables.{list-of}
 use Rattle.semantics.specs.declared.Record.{Record}
 use Rattle.semantics.specs.declared.CallRefusal.{CallRefusal}
-use Rattle.semantics.specs.declared.CallRefusal.the-variants.{Blocked}
 use Rattle.semantics.specs.declared.Answer.{Answer}
 use Rattle.semantics.specs.declared.Answer.the-variants as Answers
 use Rattle.semantics.specs.Run.{task-of}
@@ -179,9 +178,9 @@ module _ (run : Run) (n : ℕ) (t : Record) (same : record-of run n ≡ t) where
       (place w : ℕ) (light : w ≤ 8) (below : n < 128) (p : StepPlan)
       (there : SoundRun run → Placed run n place × (decided run step n ≡ planned run n w p))
     where
-      pub step-held : p ≡ Planned.Held → (c : Change) → c ≡ kept t (run .left) Blocked → StepOf run run n c
-      unfolding planned refusal-number
-      step-held q c e = step-refused Blocked (λ s. there s .1 ∙ ap (planned run n w) q) c e
+      pub step-held : (k : CallRefusal) → p ≡ Planned.Held k → (c : Change) → c ≡ kept t (run .left) k → StepOf run run n c
+      unfolding planned
+      step-held k q c e = step-refused k (λ s. there s .1 ∙ ap (planned run n w) q) c e
 
       -- a plan that makes no task
       pub step-own :

@@ -12,7 +12,6 @@ use Rattle.tasklist.specs.TaskList.{body-of, instruction-of}
 use Rattle.tasklist.specs.Tables.{list-of}
 use Rattle.semantics.specs.declared.Record.{Record}
 use Rattle.semantics.specs.declared.CallRefusal.{CallRefusal}
-use Rattle.semantics.specs.declared.CallRefusal.the-variants.{Blocked}
 use Rattle.semantics.specs.declared.Answer.the-variants as Answers
 use Rattle.semantics.specs.Run.{context, weight-of}
 use Rattle.semantics.specs.Plan.{step}
@@ -78,10 +77,9 @@ module _ (tables : Tables) (memory modes order : List ℕ) (left : ℕ) (own : R
   -- plan by plan
   module _ (place w : ℕ) (p : StepPlan) (b : StepsBy place w p) where
     pub change-held :
-        p ≡ Planned.Held → (c : Change) → c ≡ kept own left Blocked
-        → Stepped memory modes order c
-    change-held q c e =
-        λ run same. step-held (from run) n own same place w (b .light) (b .below) p (b .decides run same) q c e
+        (k : CallRefusal) → p ≡ Planned.Held k → (c : Change) → c ≡ kept own left k → Stepped memory modes order c
+    change-held k q c e =
+        λ run same. step-held (from run) n own same place w (b .light) (b .below) p (b .decides run same) k q c e
 
     decides-as :
         (x : StepPlan) → p ≡ x → (run : Run) → record-of run n ≡ own → SoundRun (from run)

@@ -1,29 +1,36 @@
 -- What each instruction comes to, in the code's terms. Assumes nothing.
 use Prim.Native.Nat.{ℕ, zero, suc, _+_, _-_, _%_, _^_, _≤_, _<_}
-use mathlib.Core.Path.{_≡_, refl, sym, ap, _∙_}
+use mathlib.Core.Path.{_≡_, refl, sym, ap, subst, _∙_}
 use mathlib.Core.List.{List, [], _∷_}
-use mathlib.Core.Bool.{Bool, true, false, false≢true, cond, not}
+use mathlib.Core.Bool.{Bool, true, false, cond}
 use mathlib.Core.Logic.{_⊎_, inl, inr, _≢_}
 use native.Mathlib.Omega.{arith}
 use native.Mathlib.Decide.{decLt}
 use lib.ListN.{length, take, getD}
 use lib.Seq.{getD-take}
 use lib.Dec.{ltb}
-use borrow.Author.Tests.{lt-ltb, le-ltb, eq-eqb, ne-eqb, not-true, not-false}
+use borrow.Author.Tests.{lt-ltb, le-ltb, eq-eqb, ne-eqb}
 use Rattle.tasklist.specs.declared.Instruction.{Instruction}
 use Rattle.tasklist.specs.declared.Instruction.the-variants.{Const, Add, Sub, Less, Load, Store, Skip, Spawn, Wait}
 use Rattle.tasklist.specs.TaskList.{instruction-of}
 use Rattle.tasklist.specs.Encode.{instruction-fields}
 use Rattle.tasklist.specs.Tables.{list-of}
+use Rattle.semantics.specs.declared.CallRefusal.{CallRefusal}
 use Rattle.semantics.specs.Run.{Task, weight-of, mode-of, register, task-of}
 use Rattle.semantics.specs.Run as Semantics
-use Rattle.semantics.specs.Access.{Access, every, allowed, access-fault}
+use Rattle.semantics.specs.Access.{Access, every, access-fault}
 use Rattle.semantics.specs.Effect.{Effect, Plan, own, faulted, assigned, passes, storing}
 use Rattle.semantics.specs.Plan.{step, wrap, unless-fault, plan-load, plan-store, plan-wait, passed-over, plan-instruction, step-weight, at-end, plan-step, plan}
-use Rattle.semantics.specs.Call.{refuse, accept, hold, admit, settle}
+use Rattle.semantics.specs.Call.{refuse, accept, admit, settle}
+use Rattle.semantics.specs.Sound.{In}
+use Rattle.semantics.proofs.SoundModes.{none-grants}
+use Rattle.semantics.proofs.Search.{Asks}
 use Rattle.tables.specs.Rows.{row}
-use Rattle.tables.specs.Ahead.{access, clear}
-use Rattle.tables.proofs.SearchLaws.{clear-allowed}
+use Rattle.tables.specs.Ahead.{access, accesses-of, hold-ahead}
+use Rattle.tables.specs.declared.Hold.{Hold}
+use Rattle.tables.specs.declared.Wanted.{Wanted}
+use Rattle.tables.proofs.RowLaws.{row-past}
+use Rattle.tables.proofs.SearchLaws.{outcome-by}
 use Rattle.tables.proofs.GrantLaws.{own-other}
 use Rattle.runtime.specs.declared.Run.{Run}
 use Rattle.runtime.specs.declared.Access.the-variants as Found
@@ -34,7 +41,7 @@ use Rattle.runtime.specs.Calls.{decided}
 use Rattle.runtime.specs.Parts.{Placed, record-of}
 use Rattle.runtime.specs.Steps.{fault-at, AccessAs, planned, settled, Plans, PlansFree, FreeAs, WaitAs}
 use Rattle.runtime.proofs.ViewLaws.{mode-is}
-use Rattle.runtime.proofs.CallLaws.{by-plan, own-task, rows-same, own-state}
+use Rattle.runtime.proofs.CallLaws.{by-plan, own-task, looks-ahead, own-state}
 
 pub either : {A B C : Type 0} → A ⊎ B → (A → C) → (B → C) → C
 either (inl a) f g = f a
@@ -72,26 +79,39 @@ module _
     pub access-faults : fault ≢ 0 → AccessAs run n place a asked (Found.Fault fault)
     access-faults h = (h, known)
 
-    module _
-        (none : fault ≡ 0) (b : Bool)
-        (searched :
-        length (run .order) ≡ 128 → length (run .modes) ≡ 8192
-        → b ≡ not (clear (run .modes) (take place (run .order)) (access a asked)))
+    -- by the search
+    pub access-looked :
+        fault ≡ 0 → (w : Wanted) → (a < 64 → accesses-of w ≡ access a asked ∷ []) → (h : Hold)
+        → (length (run .order) ≡ 128 → length (run .modes) ≡ 8192
+        → h ≡ hold-ahead (run .modes) (take place (run .order)) (accesses-of w))
+        → (x : Hold) → h ≡ x → SoundRun run → Placed run n place
+        → (fault-at run n a asked ≡ 0)
+        × (asked ≢ 0 → (e : Effect) → admit (model run) n (access a asked ∷ []) e ≡ outcome-by x e)
+    access-looked none w one h searched x is s p = (
+      granted,
+      λ z e.
+          looks-ahead run s n place (access a asked ∷ []) p (asks z) h
+          (searched (s .order) (s .modes) ∙ ap (hold-ahead (run .modes) (take place (run .order))) (one near)) e
+          ∙ ap (λ y. outcome-by y e) is,
+    )
       where
-        same-look :
-            SoundRun run → Placed run n place
-            → clear (run .modes) (take place (run .order)) (access a asked) ≡ allowed (model run) n (access a asked)
-        same-look s p =
-            ap (λ l. clear (run .modes) l (access a asked)) (sym (p .ahead-of))
-            ∙ clear-allowed (model run) n (run .modes) (rows-same run s) (access a asked)
+        granted : fault-at run n a asked ≡ 0
+        granted = known s ∙ none
 
-        pub access-held : b ≡ true → AccessAs run n place a asked Found.Held
-        access-held q =
-            λ s p. (known s ∙ none, sym (same-look s p) ∙ not-true _ (sym (searched (s .order) (s .modes)) ∙ q))
+        queued : mode-of (task-of (model run) n) a ≡ 0 → ⊥
+        queued q = none-grants asked (subst (λ o. access-fault o asked ≡ 0) q granted)
 
-        pub access-free : b ≡ false → AccessAs run n place a asked Found.Free
-        access-free q =
-            λ s p. (known s ∙ none, sym (same-look s p) ∙ not-false _ (sym (searched (s .order) (s .modes)) ∙ q))
+        near : a < 64
+        near = sort (decLt a 64)
+          where
+            sort : Dec (a < 64) → a < 64
+            sort (yes l) = l
+            sort (no l) = absurd (queued (sym (mode-is run n a (s .records) (s .modes)) ∙ sym (row-past n a (run .modes) (omega arith))))
+
+        asks : asked ≢ 0 → (g : Access) → In g (access a asked ∷ []) → Asks (model run) n g
+        asks z g (inl q) =
+            record { queued = λ o. queued (ap (λ (y : Access). mode-of (task-of (model run) n) (y .location)) (sym q) ∙ o); asked = λ o. z (ap (λ (y : Access). y .mode) (sym q) ∙ o) }
+        asks z g (inr i) = absurd i
 
 -- "Faults come before waiting"
 module _ (r : Semantics.Run) (n w : ℕ) (t : Task) (q : Plan) where
@@ -102,14 +122,6 @@ module _ (r : Semantics.Run) (n w : ℕ) (t : Task) (q : Plan) where
 
   settle-none : (f : ℕ) → f ≡ 0 → settle r n (unless-fault f w t q) ≡ settle r n q
   settle-none f e = ap (λ x. settle r n (unless-fault x w t q)) e ∙ (unfold unless-fault in refl)
-
-admit-free : (r : Semantics.Run) (n : ℕ) (g : Access) (e : Effect) → allowed r n g ≡ true → admit r n (g ∷ []) e ≡ accept e
-unfolding admit every
-admit-free r n g e h = rw h refl
-
-admit-held : (r : Semantics.Run) (n : ℕ) (g : Access) (e : Effect) → allowed r n g ≡ false → admit r n (g ∷ []) e ≡ refuse 12
-unfolding admit every hold
-admit-held r n g e h = rw h refl
 
 -- an access without fault is to a location of the list
 inside : (run : Run) (n a asked : ℕ) → SoundRun run → fault-at run n a asked ≡ 0 → a < run .tables .locations
@@ -140,12 +152,12 @@ module _ (run : Run) (n place : ℕ) (below : n < 128) where
     unfolding plan-load planned
     load-fault k h = λ s p w. load-at s w ∙ settle-fault (model run) n w (task-of (model run) n) _ _ k (h .1 s) (h .0)
 
-    pub load-held : AccessAs run n place a 1 Found.Held → Plans run n place (Load target x) Planned.Held
+    pub load-held : (k : CallRefusal) → AccessAs run n place a 1 (Found.Held k) → Plans run n place (Load target x) (Planned.Held k)
     unfolding plan-load planned settle
-    load-held h =
+    load-held k h =
         λ s p w.
         load-at s w ∙ settle-none (model run) n w (task-of (model run) n) _ _ (h s p .0)
-        ∙ admit-held (model run) n (access a 1) _ (h s p .1)
+        ∙ h s p .1 (λ q. omega arith) _
 
     pub load-free :
         (v : ℕ) → v ≡ getD (run .memory) a 0 → AccessAs run n place a 1 Found.Free
@@ -154,7 +166,7 @@ module _ (run : Run) (n place : ℕ) (below : n < 128) where
     load-free v q h =
         λ s p w.
         load-at s w ∙ settle-none (model run) n w (task-of (model run) n) _ _ (h s p .0)
-        ∙ admit-free (model run) n (access a 1) _ (h s p .1)
+        ∙ h s p .1 (λ q. omega arith) _
         ∙ ap (λ z. accept (own w (assigned target z (task-of (model run) n))))
         (getD-take (run .tables .locations) (run .memory) a 0 (inside run n a 1 s (h s p .0)) ∙ sym q)
 
@@ -172,12 +184,12 @@ module _ (run : Run) (n place : ℕ) (below : n < 128) where
     unfolding plan-store planned
     store-fault k h = λ s p w. store-at s w ∙ settle-fault (model run) n w (task-of (model run) n) _ _ k (h .1 s) (h .0)
 
-    pub store-held : AccessAs run n place a 2 Found.Held → Plans run n place (Store to source) Planned.Held
+    pub store-held : (k : CallRefusal) → AccessAs run n place a 2 (Found.Held k) → Plans run n place (Store to source) (Planned.Held k)
     unfolding plan-store planned settle
-    store-held h =
+    store-held k h =
         λ s p w.
         store-at s w ∙ settle-none (model run) n w (task-of (model run) n) _ _ (h s p .0)
-        ∙ admit-held (model run) n (access a 2) _ (h s p .1)
+        ∙ h s p .1 (λ q. omega arith) _
 
     pub store-free :
         (v : ℕ) → v ≡ getD (record-of run n .registers) source 0 → AccessAs run n place a 2 Found.Free
@@ -186,7 +198,7 @@ module _ (run : Run) (n place : ℕ) (below : n < 128) where
     store-free v q h =
         λ s p w.
         store-at s w ∙ settle-none (model run) n w (task-of (model run) n) _ _ (h s p .0)
-        ∙ admit-free (model run) n (access a 2) _ (h s p .1)
+        ∙ h s p .1 (λ q. omega arith) _
         ∙ ap (λ z. accept (storing w a z (task-of (model run) n))) (named s source v q)
 
   module _
@@ -206,23 +218,29 @@ module _ (run : Run) (n place : ℕ) (below : n < 128) where
           (unless-fault (fault-at run n a m) w (task-of (model run) n) (passes w (access a m ∷ []) (task-of (model run) n))))
           (sym (mode (s .modes) ∙ mode-is run n a (s .records) (s .modes)))
 
+      -- what the task's own mode allows is not nothing
+      asks-some : SoundRun run → fault-at run n a asked ≡ 0 → asked ≢ 0
+      asks-some s f z =
+          none-grants asked
+          (subst (λ o. access-fault o asked ≡ 0) (sym (mode (s .modes) ∙ mode-is run n a (s .records) (s .modes)) ∙ z) f)
+
       pub wait-fault : (k : ℕ) → AccessAs run n place a asked (Found.Fault k) → Plans run n place (Wait x) (Planned.Fault k)
       unfolding planned
       wait-fault k h = λ s p w. wait-at s w ∙ settle-fault (model run) n w (task-of (model run) n) _ _ k (h .1 s) (h .0)
 
-      pub wait-held : AccessAs run n place a asked Found.Held → Plans run n place (Wait x) Planned.Held
+      pub wait-held : (k : CallRefusal) → AccessAs run n place a asked (Found.Held k) → Plans run n place (Wait x) (Planned.Held k)
       unfolding planned settle
-      wait-held h =
+      wait-held k h =
           λ s p w.
           wait-at s w ∙ settle-none (model run) n w (task-of (model run) n) _ _ (h s p .0)
-          ∙ admit-held (model run) n (access a asked) _ (h s p .1)
+          ∙ h s p .1 (asks-some s (h s p .0)) _
 
       pub wait-free : AccessAs run n place a asked Found.Free → Plans run n place (Wait x) (Planned.Pass 0)
       unfolding planned settle
       wait-free h =
           λ s p w.
           wait-at s w ∙ settle-none (model run) n w (task-of (model run) n) _ _ (h s p .0)
-          ∙ admit-free (model run) n (access a asked) _ (h s p .1)
+          ∙ h s p .1 (asks-some s (h s p .0)) _
 
 -- Those that never wait.
 module _ (rs : List ℕ) where

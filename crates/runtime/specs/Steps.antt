@@ -1,7 +1,7 @@
 -- What the parts of a step promise each other.
 use Prim.Native.Nat.{ℕ, _+_, _%_, _^_, _≤_, _<_}
 use mathlib.Core.Path.{_≡_}
-use mathlib.Core.List.{List}
+use mathlib.Core.List.{List, [], _∷_}
 use mathlib.Core.Bool.{Bool, true, false}
 use mathlib.Core.Logic.{_≢_}
 use lib.ListN.{length, take, set}
@@ -11,11 +11,11 @@ use Rattle.tasklist.specs.TaskList.{footprint-of}
 use Rattle.tasklist.specs.Tables.{list-of}
 use Rattle.semantics.specs.declared.Record.{Record}
 use Rattle.semantics.specs.Run.{mode-of, task-of}
-use Rattle.semantics.specs.Access.{allowed, access-fault}
+use Rattle.semantics.specs.Access.{access-fault}
 use Rattle.semantics.specs.Effect.{Effect, own, moved, faulted, assigned, storing}
 use Rattle.semantics.specs.Footprint.{child-modes}
 use Rattle.semantics.specs.Plan.{step, plan-instruction, plan-spawn}
-use Rattle.semantics.specs.Call.{Outcome, refuse, accept, settle, apply}
+use Rattle.semantics.specs.Call.{Outcome, refuse, accept, admit, settle, apply}
 use Rattle.semantics.specs.Answers.{refusal-number}
 use Rattle.tables.specs.Ahead.{access}
 use Rattle.tables.specs.Places.{insert-at}
@@ -36,10 +36,13 @@ fault-at run n a asked = access-fault (mode-of (task-of (model run) n) a) asked
 -- what comes of task n's access to a location
 abbrev pub AccessAs : Run → ℕ → ℕ → ℕ → ℕ → Access → Type 0
 AccessAs run n place a asked (Found.Fault k) = (k ≢ 0) × (SoundRun run → fault-at run n a asked ≡ k)
-AccessAs run n place a asked Found.Held =
-    SoundRun run → Placed run n place → (fault-at run n a asked ≡ 0) × (allowed (model run) n (access a asked) ≡ false)
+AccessAs run n place a asked (Found.Held k) =
+    SoundRun run → Placed run n place
+    → (fault-at run n a asked ≡ 0)
+    × (asked ≢ 0 → (e : Effect) → admit (model run) n (access a asked ∷ []) e ≡ refuse (refusal-number k))
 AccessAs run n place a asked Found.Free =
-    SoundRun run → Placed run n place → (fault-at run n a asked ≡ 0) × (allowed (model run) n (access a asked) ≡ true)
+    SoundRun run → Placed run n place
+    → (fault-at run n a asked ≡ 0) × (asked ≢ 0 → (e : Effect) → admit (model run) n (access a asked ∷ []) e ≡ accept e)
 
 -- a run with this order and these modes: what a plan looks at beside the task's own record
 abbrev pub looking : List ℕ → List ℕ → Run → Run
@@ -61,7 +64,7 @@ AccessIn order modes n place a asked r = (run : Run) → AccessAs (looking order
 
 -- what a plan says of task n under weight w
 unfoldable pub planned : Run → ℕ → ℕ → StepPlan → Outcome
-planned run n w Planned.Held = refuse 12
+planned run n w (Planned.Held k) = refuse (refusal-number k)
 planned run n w (Planned.Fault k) = accept (own w (faulted k (task-of (model run) n)))
 planned run n w (Planned.Assign a v) = accept (own w (assigned a v (task-of (model run) n)))
 planned run n w (Planned.Pass k) =

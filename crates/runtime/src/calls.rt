@@ -14,6 +14,7 @@ use crate::carry::unchanged;
 use semantics::Answer;
 use semantics::CallRefusal;
 use semantics::Record;
+use tables::Hold;
 use tables::Place;
 
 // "start 5, end 2, codes 0 to 8: 1, 1, 1, 1, 3, 4, 1, 8, 1"
@@ -47,7 +48,7 @@ pub fn at_end(own: Record, size: usize) -> bool
     size <= own.pc as usize
 }
 
-// What comes of a start: the task's place, or 9, 10, 11, 12.
+// What comes of a start: the task's place, or 9, 10, 11, 19, 20.
 fn start_look<'a>(
     order: &'a [u8; 128],
     modes: &'a [u8; 8192],
@@ -66,13 +67,17 @@ fn start_look<'a>(
                     refusal: CallRefusal::Started,
                 };
             }
-            let wanted = tables::row_of(modes, task as usize);
-            if tables::blocked(order, place, modes, wanted) {
-                return Located::Refused {
-                    refusal: CallRefusal::Blocked,
-                };
+            let wanted = tables::wanted_of(modes, task as usize);
+            let hold = tables::search_ahead(order, place, modes, wanted);
+            match hold {
+                Hold::Free => Located::At { place },
+                Hold::Writer => Located::Refused {
+                    refusal: CallRefusal::BehindWriter,
+                },
+                Hold::Others => Located::Refused {
+                    refusal: CallRefusal::BehindOthers,
+                },
             }
-            Located::At { place }
         }
     }
 }
@@ -155,7 +160,7 @@ pub fn out_of_range(run: Run) -> Called
 }
 
 impl Run {
-    // Starts a task: 9 number above 127, 10 not in the order, 11 already started, 12 held back.
+    // Starts a task: 9 number above 127, 10 not in the order, 11 already started, 19 and 20 held back.
     pub fn start(self, task: u32) -> Called
         ensures { λ r. ⌜ CalledAs start self task r ⌝ }
     {

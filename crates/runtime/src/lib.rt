@@ -64,14 +64,15 @@ pub enum Located {
 // What an access of a task comes to: faults come before waiting.
 pub enum Access {
     Fault { fault: u8 },
-    Held,
+    // Held back: 19, 20.
+    Held { refusal: CallRefusal },
     Free,
 }
 
 // What an instruction comes to, by the task's own record and a look at the tasks ahead.
 pub enum StepPlan {
-    // 12: the task is held back.
-    Held,
+    // The task is held back: 19, 20.
+    Held { refusal: CallRefusal },
     Fault { fault: u8 },
     // One step on, with a value in a register.
     Assign { target: u8, value: u32 },

@@ -11,6 +11,8 @@ ghost use Rattle.semantics.specs.Plan.{passed-over};
 ghost use Rattle.runtime.specs.Steps.{AccessIn, PlansIn, FreeAs, WaitIn};
 use crate::Access;
 use crate::StepPlan;
+use semantics::CallRefusal;
+use tables::Hold;
 use tasklist::Instruction;
 
 // A constant as 32 bits.
@@ -92,7 +94,7 @@ pub fn code_of(instruction: Instruction) -> usize
     }
 }
 
-// What comes of an access: its fault, else whether a task ahead stands in its way.
+// What comes of an access: its fault, else what the tasks ahead do to it.
 fn access_of<'a>(
     order: &'a [u8; 128],
     modes: &'a [u8; 8192],
@@ -105,14 +107,20 @@ fn access_of<'a>(
 {
     let own = tables::mode_at(modes, task, location);
     let fault = tables::access_fault(own, asked);
-    let held = tables::held(order, place, modes, location, asked);
     if fault != 0 {
         return Access::Fault { fault };
     }
-    if held {
-        return Access::Held;
+    let wanted = tables::wanted_at(location, asked);
+    let hold = tables::search_ahead(order, place, modes, wanted);
+    match hold {
+        Hold::Free => Access::Free,
+        Hold::Writer => Access::Held {
+            refusal: CallRefusal::BehindWriter,
+        },
+        Hold::Others => Access::Held {
+            refusal: CallRefusal::BehindOthers,
+        },
     }
-    Access::Free
 }
 
 // "Load needs reading"
@@ -133,7 +141,7 @@ fn load_plan<'a>(
     let found = access_of(order, modes, task, place, location, 1);
     match found {
         Access::Fault { fault } => StepPlan::Fault { fault },
-        Access::Held => StepPlan::Held,
+        Access::Held { refusal } => StepPlan::Held { refusal },
         Access::Free => StepPlan::Assign {
             target,
             value: value_at(memory, location),
@@ -158,7 +166,7 @@ fn store_plan<'a>(
     let found = access_of(order, modes, task, place, location, 2);
     match found {
         Access::Fault { fault } => StepPlan::Fault { fault },
-        Access::Held => StepPlan::Held,
+        Access::Held { refusal } => StepPlan::Held { refusal },
         Access::Free => StepPlan::Store {
             location,
             value: tables::register_at(registers, source),
@@ -183,7 +191,7 @@ fn wait_plan<'a>(
     let found = access_of(order, modes, task, place, location, asked);
     match found {
         Access::Fault { fault } => StepPlan::Fault { fault },
-        Access::Held => StepPlan::Held,
+        Access::Held { refusal } => StepPlan::Held { refusal },
         Access::Free => StepPlan::Pass { over: 0 },
     }
 }
@@ -243,12 +251,12 @@ fn free_plan(registers: [u32; 4], instruction: Instruction) -> StepPlan
         Instruction::Load {
             target: _,
             place: _,
-        } => StepPlan::Held,
+        } => StepPlan::Pass { over: 0 },
         Instruction::Store {
             place: _,
             source: _,
-        } => StepPlan::Held,
-        Instruction::Wait { place: _ } => StepPlan::Held,
+        } => StepPlan::Pass { over: 0 },
+        Instruction::Wait { place: _ } => StepPlan::Pass { over: 0 },
     }
 }
 
@@ -277,27 +285,27 @@ fn waiting_plan<'a>(
         Instruction::Const {
             target: _,
             value: _,
-        } => StepPlan::Held,
+        } => StepPlan::Pass { over: 0 },
         Instruction::Add {
             target: _,
             left: _,
             right: _,
-        } => StepPlan::Held,
+        } => StepPlan::Pass { over: 0 },
         Instruction::Sub {
             target: _,
             left: _,
             right: _,
-        } => StepPlan::Held,
+        } => StepPlan::Pass { over: 0 },
         Instruction::Less {
             target: _,
             left: _,
             right: _,
-        } => StepPlan::Held,
-        Instruction::Skip { test: _, length: _ } => StepPlan::Held,
+        } => StepPlan::Pass { over: 0 },
+        Instruction::Skip { test: _, length: _ } => StepPlan::Pass { over: 0 },
         Instruction::Spawn {
             body: _,
             footprint: _,
-        } => StepPlan::Held,
+        } => StepPlan::Pass { over: 0 },
     }
 }
 

@@ -86,8 +86,7 @@ pub fn step_change(
             );
             let weight = WEIGHTS[code + 2];
             match plan {
-                // 12
-                StepPlan::Held => unchanged(own, left, CallRefusal::Blocked),
+                StepPlan::Held { refusal } => unchanged(own, left, refusal),
                 StepPlan::Fault { fault } => {
                     let next = failed(own, fault);
                     changed(next, left, weight)
@@ -127,7 +126,7 @@ pub fn step_change(
 }
 
 impl Run {
-    // One instruction: 9 number above 127, 10 not in the order, 13 not started, 14 at its end, 12 held back.
+    // One instruction: 9 number above 127, 10 not in the order, 13 not started, 14 at its end, 19 and 20 held back.
     pub fn step(self, task: u32) -> Called
         ensures { λ r. ⌜ CalledAs step self task r ⌝ }
     {

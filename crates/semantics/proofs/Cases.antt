@@ -14,7 +14,7 @@ use Rattle.tasklist.specs.Decode
 use Rattle.tasklist.specs.Encode.{instruction-fields}
 use Rattle.tasklist.proofs.Cases.{P}
 use Rattle.semantics.specs.Run.{no-modes, never, fixed-weights, weight-of, root-modes, root, initial}
-use Rattle.semantics.specs.Access.{every, only, ahead, queue, compatible, allowed, access-fault}
+use Rattle.semantics.specs.Access.{every, any, only, ahead, queue, behind-writer, compatible, allowed, access-fault}
 use Rattle.semantics.specs.Footprint.{targets, all-targets, twice, first-fault, unless-denied, grant, child-modes}
 use Rattle.semantics.specs.Plan.{unless-fault, plan-load, plan-store, plan-wait, passed-over, child-number, plan-spawn, plan-instruction, step-weight, at-end, needs-from, plan-start, plan-step, plan-end, plan}
 use Rattle.semantics.specs.Call.{Call, hold, admit, settle, among, decide, edited, written, splice, stays, places, changes, apply, taken, call, after, after-all}
@@ -67,6 +67,18 @@ far-register =
       bodies = (Const 1 1 ∷ Sub 0 0 1 ∷ Spawn 1 0 ∷ []) ∷ [] ∷ [];
     }
 
+-- job 0's children read location 0 and write location 1; then it stores at location 0, or spawns a writer of both
+abbrev behind-both : Instruction → TaskList
+behind-both i =
+    record {
+      locations = 2;
+      footprints =
+          (record { kind = 0; value = 0 } ∷ []) ∷
+          (record { kind = 1; value = 1 } ∷ []) ∷
+          (record { kind = 1; value = 0 } ∷ record { kind = 1; value = 1 } ∷ []) ∷ [];
+      bodies = (Spawn 1 0 ∷ Spawn 1 1 ∷ i ∷ []) ∷ [] ∷ [];
+    }
+
 -- the bytes of a body that spawns these bodies
 abbrev spawns : List ℕ → List ℕ
 spawns [] = []
@@ -96,12 +108,13 @@ cases =
     -- "After start 0, step 0, step 0: order 1, 2, 0; queue of entry 0 is 513, 258, 512; of entry 1 it is 514, 512."
     by-calls P (5 ∷ 7 ∷ []) opening (0 ∷ 0 ∷ 0 ∷ [])
     (order-is (1 ∷ 2 ∷ 0 ∷ []) ∷ queue-is 0 (513 ∷ 258 ∷ 512 ∷ []) ∷ queue-is 1 (514 ∷ 512 ∷ []) ∷ []) ∷
-    -- "Then start 2 gives 12, start 1 is accepted, end 0 is accepted."
-    by-calls P (5 ∷ 7 ∷ []) (opening ++ (start-of 2 ∷ start-of 1 ∷ end-of 0 ∷ [])) (0 ∷ 0 ∷ 0 ∷ 12 ∷ 0 ∷ 0 ∷ [])
+    -- "Then start 2 gives 12, start 1 is accepted, end 0 is accepted." With request 102: "start 2 now gives 19"
+    by-calls P (5 ∷ 7 ∷ []) (opening ++ (start-of 2 ∷ start-of 1 ∷ end-of 0 ∷ [])) (0 ∷ 0 ∷ 0 ∷ 19 ∷ 0 ∷ 0 ∷ [])
     (order-is (1 ∷ 2 ∷ []) ∷ calls-are 5 ∷ weight-is 28 ∷ []) ∷
-    -- "Two children of job 0 reading one entry: both start; job 0 may load it; its store gives 12."
+    -- "Two children of job 0 reading one entry: both start; job 0 may load it; its store gives 12." With request 102: "the store
+    -- behind two readers 20"
     by-calls readers (5 ∷ 7 ∷ []) (opening ++ (start-of 2 ∷ start-of 1 ∷ step-of 0 ∷ step-of 0 ∷ []))
-    (0 ∷ 0 ∷ 0 ∷ 0 ∷ 0 ∷ 0 ∷ 12 ∷ [])
+    (0 ∷ 0 ∷ 0 ∷ 0 ∷ 0 ∷ 0 ∷ 20 ∷ [])
     (memory-is (5 ∷ 7 ∷ []) ∷ []) ∷
     -- "Store to a read entry: fault 2, entry unchanged."
     by-hand store-to-read (5 ∷ 7 ∷ []) (fault-is 1 2 ∷ memory-is (5 ∷ 7 ∷ []) ∷ []) ∷
@@ -123,8 +136,14 @@ cases =
     tasks-in [] 1 ∷
     by-calls empty-list (5 ∷ []) (start-of 0 ∷ end-of 0 ∷ []) (0 ∷ 0 ∷ []) (order-is [] ∷ calls-are 2 ∷ weight-is 7 ∷ []) ∷
     by-hand empty-list (5 ∷ []) (memory-is (5 ∷ []) ∷ order-is [] ∷ calls-are 2 ∷ weight-is 7 ∷ []) ∷
+    -- request 102: "For a start, all entries of the footprint count; for a step, the one entry concerned."
+    by-calls (behind-both (Spawn 1 2)) (5 ∷ 7 ∷ []) (opening ++ (step-of 0 ∷ start-of 3 ∷ [])) (0 ∷ 0 ∷ 0 ∷ 0 ∷ 19 ∷ [])
+    (order-is (1 ∷ 2 ∷ 3 ∷ 0 ∷ []) ∷ calls-are 4 ∷ []) ∷
+    by-calls (behind-both (Store 0 1)) (5 ∷ 7 ∷ []) (opening ++ (step-of 0 ∷ [])) (0 ∷ 0 ∷ 0 ∷ 20 ∷ [])
+    (memory-is (5 ∷ 7 ∷ []) ∷ calls-are 3 ∷ []) ∷
     -- Besides those marked. "With P and input 00 00 01 00 01 00 00 02 it prints the lines 0, 0, 0, 12, 5, 7, `3 21 3`."
-    by-calls P (5 ∷ 7 ∷ []) (opening ++ (start-of 2 ∷ [])) (0 ∷ 0 ∷ 0 ∷ 12 ∷ [])
+    -- With request 102 the fourth is 19.
+    by-calls P (5 ∷ 7 ∷ []) (opening ++ (start-of 2 ∷ [])) (0 ∷ 0 ∷ 0 ∷ 19 ∷ [])
     (memory-is (5 ∷ 7 ∷ []) ∷ calls-are 3 ∷ weight-is 21 ∷ order-is (1 ∷ 2 ∷ 0 ∷ []) ∷ []) ∷
     -- a runtime that does the whole hand run in the first start would have 9, 9 here
     by-calls P (5 ∷ 7 ∷ []) (start-of 0 ∷ []) (0 ∷ []) (memory-is (5 ∷ 7 ∷ []) ∷ calls-are 1 ∷ weight-is 5 ∷ []) ∷
@@ -150,5 +169,5 @@ cases =
     (fault-is 2 2 ∷ order-is (1 ∷ 2 ∷ 0 ∷ []) ∷ []) ∷ []
 
 pub cases-hold : every holds cases ≡ true
-unfolding body-of footprint-of instruction-of total adds count-body count-from counts task-count field is-tag tag in-range number counted many row head-numbers head line-limit line-ok is-line line footprint forms form instruction-ok is-instruction instruction body list-behind sized finish decode Decode.register instruction-fields no-modes never fixed-weights weight-of root-modes root initial every only ahead queue compatible allowed access-fault unless-fault plan-load plan-store plan-wait passed-over targets all-targets twice first-fault unless-denied grant child-modes child-number plan-spawn plan-instruction step-weight at-end needs-from plan-start plan-step plan-end plan hold admit settle among decide edited written splice stays places changes apply taken call after after-all run-each step-through steps-through enough run-whole sequential queue-places outcome-number same is-so answers has-tasks is-refused holds
+unfolding body-of footprint-of instruction-of total adds count-body count-from counts task-count field is-tag tag in-range number counted many row head-numbers head line-limit line-ok is-line line footprint forms form instruction-ok is-instruction instruction body list-behind sized finish decode Decode.register instruction-fields no-modes never fixed-weights weight-of root-modes root initial every any only ahead queue behind-writer compatible allowed access-fault unless-fault plan-load plan-store plan-wait passed-over targets all-targets twice first-fault unless-denied grant child-modes child-number plan-spawn plan-instruction step-weight at-end needs-from plan-start plan-step plan-end plan hold admit settle among decide edited written splice stays places changes apply taken call after after-all run-each step-through steps-through enough run-whole sequential queue-places outcome-number same is-so answers has-tasks is-refused holds
 cases-hold = refl

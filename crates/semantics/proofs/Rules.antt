@@ -1,12 +1,12 @@
 -- Document 01's rules of start, load, store and wait in its own words, for the whole call: who is let through, who is held
--- back with 12, and that faults come before waiting. Assumes nothing.
+-- back and with which number, and that faults come before waiting. Assumes nothing.
 use Prim.Native.Nat.{ℕ, suc, _<_, _≤_}
 use mathlib.Core.Path.{_≡_, refl, sym, subst, _∙_}
 use mathlib.Core.List.{[], _∷_}
-use mathlib.Core.Bool.{Bool, true, false, cond, _&&_}
+use mathlib.Core.Bool.{Bool, true, false, cond, _&&_, _||_}
 use lib.ListN.{getD}
 use Rattle.semantics.specs.Run.{Run, Context, mode-of, task-of, start-weight}
-use Rattle.semantics.specs.Access.{Access, reads, writes, every, may-read, may-write, allowed, access-fault}
+use Rattle.semantics.specs.Access.{Access, reads, writes, every, any, may-read, may-write, behind-writer, allowed, access-fault}
 use Rattle.semantics.specs.Effect.{Effect, own, in-state, moved, faulted, assigned, storing}
 use Rattle.semantics.specs.Plan.{unless-fault, plan-load, plan-store, plan-wait, start}
 use Rattle.semantics.specs.Call.{refuse, accept, hold, admit, settle}
@@ -40,16 +40,23 @@ module _ (c : Context) (r : Run) (n : ℕ) where
             (wording-starts r n most h, refl);
       }
 
+-- "for a step, the one entry concerned"
+abbrev pub holder : Run → ℕ → ℕ → ℕ
+holder r n a = cond (behind-writer r n a) 19 20
+
 -- one access is let through or held back, by a test that says the same
 admit-by :
     (r : Run) (n : ℕ) (g : Access) (e : Effect) (test : Bool) → allowed r n g ≡ test
-    → admit r n (g ∷ []) e ≡ cond test (accept e) (refuse 12)
-unfolding admit every hold
-admit-by r n g e test q = rw q (look test)
+    → admit r n (g ∷ []) e ≡ cond test (accept e) (refuse (holder r n (g .location)))
+unfolding admit every hold any
+admit-by r n g e test q = rw q (look test (behind-writer r n (g .location)))
   where
-    look : (b : Bool) → cond (b && true) (accept e) (refuse 12) ≡ cond b (accept e) (refuse 12)
-    look true = refl
-    look false = refl
+    look :
+        (b w : Bool)
+        → cond (b && true) (accept e) (refuse (cond (w || false) 19 20)) ≡ cond b (accept e) (refuse (cond w 19 20))
+    look true w = refl
+    look false true = refl
+    look false false = refl
 
 no-access : (r : Run) (n : ℕ) (e : Effect) → admit r n [] e ≡ accept e
 unfolding admit every
@@ -64,7 +71,7 @@ module _ (r : Run) (n w place : ℕ) where
   pub load-rule :
       (a : ℕ) → access-fault (mode-of (task-of r n) place) 1 ≡ 0
       → settle r n (plan-load w (task-of r n) a place)
-      ≡ cond (may-read r n place) (accept (own w (assigned a (getD (r .memory) place 0) (task-of r n)))) (refuse 12)
+      ≡ cond (may-read r n place) (accept (own w (assigned a (getD (r .memory) place 0) (task-of r n)))) (refuse (holder r n place))
   unfolding plan-load unless-fault settle
   load-rule a f = rw f (admit-by r n (reads place) _ _ (read-wording r n place (queued 1 f)))
 
@@ -72,7 +79,7 @@ module _ (r : Run) (n w place : ℕ) where
   pub store-rule :
       (v : ℕ) → access-fault (mode-of (task-of r n) place) 2 ≡ 0
       → settle r n (plan-store w (task-of r n) place v)
-      ≡ cond (may-write r n place) (accept (storing w place v (task-of r n))) (refuse 12)
+      ≡ cond (may-write r n place) (accept (storing w place v (task-of r n))) (refuse (holder r n place))
   unfolding plan-store unless-fault settle
   store-rule v f = rw f (admit-by r n (writes place) _ _ (write-wording r n place (queued 2 f)))
 
@@ -80,14 +87,14 @@ module _ (r : Run) (n w place : ℕ) where
   pub wait-reading :
       mode-of (task-of r n) place ≡ 1
       → settle r n (plan-wait w (task-of r n) place)
-      ≡ cond (may-read r n place) (accept (own w (moved 1 (task-of r n .registers) (task-of r n)))) (refuse 12)
+      ≡ cond (may-read r n place) (accept (own w (moved 1 (task-of r n .registers) (task-of r n)))) (refuse (holder r n place))
   unfolding plan-wait unless-fault settle access-fault
   wait-reading q = rw q (admit-by r n (reads place) _ _ (read-wording r n place (λ z. not-zero 0 (sym q ∙ z))))
 
   pub wait-writing :
       mode-of (task-of r n) place ≡ 2
       → settle r n (plan-wait w (task-of r n) place)
-      ≡ cond (may-write r n place) (accept (own w (moved 1 (task-of r n .registers) (task-of r n)))) (refuse 12)
+      ≡ cond (may-write r n place) (accept (own w (moved 1 (task-of r n .registers) (task-of r n)))) (refuse (holder r n place))
   unfolding plan-wait unless-fault settle access-fault
   wait-writing q = rw q (admit-by r n (writes place) _ _ (write-wording r n place (λ z. not-zero 1 (sym q ∙ z))))
 

@@ -1,9 +1,9 @@
 -- The guards over the whole order are document 01's words on queues: "all ahead of it in that queue have mode 1", "none is
--- ahead". Assumes nothing.
+-- ahead", and request 102's "a job of mode write is ahead". Assumes nothing.
 use Prim.Native.Nat.{ℕ, zero, suc, _+_, _≤_}
 use mathlib.Core.Path.{_≡_, refl, sym, ap, subst, _∙_}
 use mathlib.Core.List.{List, [], _∷_}
-use mathlib.Core.Bool.{Bool, true, false, not}
+use mathlib.Core.Bool.{Bool, true, false, not, _||_}
 use mathlib.Core.Logic.{inl, inr}
 use native.Mathlib.Decide.{ℕ-discrete}
 use native.Mathlib.Nat.{add-zero, zero-add}
@@ -12,7 +12,7 @@ use lib.ListN.{length, getD}
 use lib.Dec.{eqb, eqb·suc-zero}
 use borrow.Author.Tests.{eq-eqb, ne-eqb}
 use Rattle.semantics.specs.Run.{Run, mode-of, task-of}
-use Rattle.semantics.specs.Access.{Access, reads, writes, every, only, ahead, queue, may-read, may-write, compatible, allowed}
+use Rattle.semantics.specs.Access.{Access, reads, writes, every, any, only, ahead, queue, may-read, may-write, behind-writer, compatible, allowed}
 use Rattle.semantics.specs.Plan.{needs-from}
 use Rattle.semantics.specs.Sound.{In}
 use Rattle.semantics.proofs.Order.{every-in, in-every, ahead-self, ahead-other}
@@ -93,7 +93,35 @@ module _ (mode : ℕ → ℕ) (n : ℕ) (own : mode n ≡ 0 → ⊥) where
           rw (ahead-other n k o p, only-keep queued k o (is-present k z), ahead-other n k (only queued o) p)
           (unfold every in rw (compatible-writing (mode k) z, eqb·suc-zero (length (ahead n (only queued o)))) refl)
 
+  writer-words :
+      (o : List ℕ)
+      → any (λ k. eqb (mode k) 2) (ahead n (only (λ k. not (eqb (mode k) 0)) o)) ≡ any (λ k. eqb (mode k) 2) (ahead n o)
+  writer-words [] = unfold ahead only any in refl
+  writer-words (k ∷ o) = sort (writer-words o) (ℕ-discrete k n) (ℕ-discrete (mode k) 0)
+    where
+      queued : ℕ → Bool
+      queued j = not (eqb (mode j) 0)
+
+      writing : ℕ → Bool
+      writing j = eqb (mode j) 2
+
+      sort :
+          any writing (ahead n (only queued o)) ≡ any writing (ahead n o) → Dec (k ≡ n) → Dec (mode k ≡ 0)
+          → any writing (ahead n (only queued (k ∷ o))) ≡ any writing (ahead n (k ∷ o))
+      sort ih (yes p) z =
+          rw (ahead-self n k o p, only-keep queued k o (is-present k (λ q. own (ap mode (sym p) ∙ q))), ahead-self n k (only queued o) p)
+          (unfold any in refl)
+      sort ih (no p) (yes z) = rw (ahead-other n k o p, only-drop queued k o (is-absent k z)) (unfold any in rw z ih)
+      sort ih (no p) (no z) =
+          rw (ahead-other n k o p, only-keep queued k o (is-present k z), ahead-other n k (only queued o) p)
+          (unfold any in ap (λ b. writing k || b) ih)
+
 module _ (r : Run) (n a : ℕ) (own : mode-of (task-of r n) a ≡ 0 → ⊥) where
+  -- "a job of mode write is ahead", by the whole order
+  pub writer-wording : behind-writer r n a ≡ any (λ k. eqb (mode-of (task-of r k) a) 2) (ahead n (r .order))
+  unfolding behind-writer queue
+  writer-wording = writer-words (λ k. mode-of (task-of r k) a) n own (r .order)
+
   pub read-wording : allowed r n (reads a) ≡ may-read r n a
   unfolding allowed may-read queue
   read-wording = read-words (λ k. mode-of (task-of r k) a) n own (r .order)
@@ -117,13 +145,13 @@ needs-complete (suc x ∷ ms) b (suc a) m q =
     inr (subst (λ x. In (record { location = x; mode = suc m }) (needs-from (suc b) ms)) shift (needs-complete ms (suc b) a m q))
 
 -- an access that a start needs
-abbrev Needed : List ℕ → ℕ → Access → Type 0
+abbrev pub Needed : List ℕ → ℕ → Access → Type 0
 Needed ms b g = (a : ℕ) × (g .location ≡ b + a) × (g .mode ≡ getD ms a 0) × (g .mode ≡ 0 → ⊥)
 
 needs-later : (m : ℕ) (ms : List ℕ) (b : ℕ) (g : Access) → Needed ms (suc b) g → Needed (m ∷ ms) b g
 needs-later m ms b g h = (suc (h .0), h .1 ∙ omega arith, h .2, h .3)
 
-needs-sound : (ms : List ℕ) (b : ℕ) (g : Access) → In g (needs-from b ms) → Needed ms b g
+pub needs-sound : (ms : List ℕ) (b : ℕ) (g : Access) → In g (needs-from b ms) → Needed ms b g
 unfolding needs-from
 needs-sound [] b g i = absurd i
 needs-sound (zero ∷ ms) b g i = needs-later 0 ms b g (needs-sound ms (suc b) g i)

@@ -1,7 +1,7 @@
 -- Who may read and write: document 01, "Jobs, order and queues", and the faults of an access.
 use Prim.Native.Nat.{ℕ}
 use mathlib.Core.List.{List, [], _∷_}
-use mathlib.Core.Bool.{Bool, true, false, cond, not, _&&_}
+use mathlib.Core.Bool.{Bool, true, false, cond, not, _&&_, _||_}
 use lib.ListN.{length, getD}
 use lib.Dec.{eqb}
 use Rattle.semantics.specs.Run.{Run, mode-of, task-of}
@@ -21,6 +21,11 @@ writes a = record { location = a; mode = 2 }
 unfoldable pub every : {A : Type 0} → (A → Bool) → List A → Bool
 every test [] = true
 every test (a ∷ l) = test a && every test l
+
+-- some item passes a test
+unfoldable pub any : {A : Type 0} → (A → Bool) → List A → Bool
+any test [] = false
+any test (a ∷ l) = test a || any test l
 
 -- the items that pass a test
 unfoldable pub only : {A : Type 0} → (A → Bool) → List A → List A
@@ -44,9 +49,13 @@ may-read r n a = every (λ k. eqb (mode-of (task-of r k) a) 1) (ahead n (queue r
 unfoldable pub may-write : Run → ℕ → ℕ → Bool
 may-write r n a = eqb (length (ahead n (queue r a))) 0
 
--- The same by the whole order, in a table: which mode may stand ahead of which access. A row for each mode ahead (none, read,
+-- request 102: "a job of mode write is ahead" in the queue of this location
+unfoldable pub behind-writer : Run → ℕ → ℕ → Bool
+behind-writer r n a = any (λ k. eqb (mode-of (task-of r k) a) 2) (ahead n (queue r a))
+
+-- Who may go ahead by the whole order, in a table: which mode may stand ahead of which access. A row for each mode ahead (none, read,
 -- write), a column for each mode asked for. Laws `read-wording` and `write-wording` (proofs/Wording.antt): for a task
--- with a place in the queue this is what the two definitions above say.
+-- with a place in the queue this is what `may-read` and `may-write` say.
 abbrev pub compatibility : List (List Bool)
 compatibility =
     (true ∷ true ∷ true ∷ []) ∷

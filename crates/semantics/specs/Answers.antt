@@ -3,7 +3,7 @@ use Prim.Native.Nat.{ℕ}
 use mathlib.Core.List.{List}
 use Rattle.semantics.specs.declared.Record.{Record}
 use Rattle.semantics.specs.declared.CallRefusal.{CallRefusal}
-use Rattle.semantics.specs.declared.CallRefusal.the-variants.{Number, Absent, Started, Blocked, Waiting, Finished, Unfinished, Location, Short}
+use Rattle.semantics.specs.declared.CallRefusal.the-variants.{Number, Absent, Started, BehindWriter, BehindOthers, Waiting, Finished, Unfinished, Location, Short}
 use Rattle.semantics.specs.declared.Answer.{Answer}
 use Rattle.semantics.specs.declared.Answer.the-variants.{Accepted, Refused}
 use Rattle.semantics.specs.Run.{Task}
@@ -13,7 +13,8 @@ unfoldable pub refusal-number : CallRefusal → ℕ
 refusal-number Number = 9
 refusal-number Absent = 10
 refusal-number Started = 11
-refusal-number Blocked = 12
+refusal-number BehindWriter = 19
+refusal-number BehindOthers = 20
 refusal-number Waiting = 13
 refusal-number Finished = 14
 refusal-number Unfinished = 15

@@ -7,7 +7,7 @@ use mathlib.Core.Option.{Option, none, some}
 use lib.ListN.{getD, set}
 use lib.Dec.{ltb, eqb}
 use Rattle.semantics.specs.Run.{Task, Run, Context, task-of}
-use Rattle.semantics.specs.Access.{Access, reads, every, allowed}
+use Rattle.semantics.specs.Access.{Access, reads, every, any, behind-writer, allowed}
 use Rattle.semantics.specs.Effect.{Edit, keep, put, Numbered, Effect, Plan, stop, go, fetch}
 use Rattle.semantics.specs.Plan.{Action, plan}
 
@@ -20,9 +20,10 @@ pub data Outcome : Type 0 where
   refuse : ℕ → Outcome
   accept : Effect → Outcome
 
--- "12 held back": the number of a hold on these accesses of task n
+-- The number of a hold on these accesses of task n. Request 102: "19 where a job of mode write is ahead in one of these
+-- queues, 20 for any other hold"
 unfoldable pub hold : Run → ℕ → List Access → ℕ
-hold r n gs = 12
+hold r n gs = cond (any (λ g. behind-writer r n (g .location)) gs) 19 20
 
 -- accepted where all these accesses are allowed, else held back
 unfoldable pub admit : Run → ℕ → List Access → Effect → Outcome

@@ -16,7 +16,8 @@ pub struct Record {
     pub weight: u32,
 }
 
-// Why a call, a record or a queue is refused: document 01's numbers 9 to 17, in this order.
+// Why a call, a record or a queue is refused: document 01's numbers 9 to 17, in this order, and request 102's 19 and 20 in
+// the place of 12.
 pub enum CallRefusal {
     // 9: a task number above 127.
     Number,
@@ -24,8 +25,10 @@ pub enum CallRefusal {
     Absent,
     // 11: the task has already started.
     Started,
-    // 12: the task is held back.
-    Blocked,
+    // 19: the task is held back, and a task of mode write is ahead of it.
+    BehindWriter,
+    // 20: the task is held back by others.
+    BehindOthers,
     // 13: the task has not started.
     Waiting,
     // 14: the task is at its end.

@@ -1,25 +1,30 @@
--- Laws of the search: a test on all items, item by item from the front, and the model's guards by the table of modes.
--- Assumes nothing.
+-- Laws of the search: a look at several items from the front, the accesses of a row, and the model's answer by the table of
+-- modes. Assumes nothing.
 use Prim.Native.Nat.{ℕ, zero, suc, _+_, _≤_, _<_}
-use mathlib.Core.Path.{_≡_, refl, sym, ap, _∙_}
-use mathlib.Core.List.{List, [], _∷_}
-use mathlib.Core.Bool.{Bool, true, false, not}
+use mathlib.Core.Path.{_≡_, refl, sym, ap, subst, _∙_}
+use mathlib.Core.List.{List, [], _∷_, _++_, append-nil}
+use mathlib.Core.Bool.{Bool, true, false, not, _&&_}
 use mathlib.Core.Logic.{_≢_, inl, inr}
 use native.Mathlib.Omega.{arith}
 use native.Mathlib.Numerals.{add-one}
-use native.Mathlib.Nat.{add-zero, zero-add}
-use lib.ListN.{length, take, drop, getD, set, replicate, length-take, drop-of-length-le}
-use lib.Seq.{drop-cons, getD-take}
+use lib.ListN.{length, take, drop, getD, set, length-take, drop-of-length-le}
+use lib.Seq.{drop-cons, getD-take, take-suc-set, append-snoc}
 use lib.Dec.{leb, eqb}
-use borrow.Author.Tests.{lt-leb, ne-eqb}
-use Rattle.semantics.specs.Run.{Run, task-of, no-modes}
-use Rattle.semantics.specs.Access.{Access, every, ahead, compatible, allowed}
+use borrow.Author.Tests.{lt-leb, eq-eqb, ne-eqb}
+use Rattle.semantics.specs.Run.{Run, task-of}
+use Rattle.semantics.specs.Access.{Access, every, any, ahead, compatible}
+use Rattle.semantics.specs.Effect.{Effect}
 use Rattle.semantics.specs.Plan.{needs-from}
+use Rattle.semantics.specs.Call.{Outcome, refuse, accept, admit}
 use Rattle.semantics.specs.Sound.{In}
 use Rattle.semantics.proofs.Order.{in-ahead}
-use Rattle.semantics.proofs.Search.{every-swap}
+use Rattle.semantics.proofs.Search.{any-same, Asks, admit-free, admit-writer, admit-others}
+use Rattle.semantics.proofs.Search as Model
+use Rattle.tables.specs.declared.Hold.{Hold}
+use Rattle.tables.specs.declared.Hold.the-variants.{Free, Writer, Others}
+use Rattle.tables.specs.declared.Wanted.{Wanted}
 use Rattle.tables.specs.Rows.{row}
-use Rattle.tables.specs.Ahead.{access, clear}
+use Rattle.tables.specs.Ahead.{access, accesses, accesses-of, writes-one, passes-all, held-by, hold-ahead}
 
 -- the table of the model, row by row
 pub none-ahead : (a : ℕ) → leb a 2 ≡ compatible 0 a
@@ -50,145 +55,294 @@ other-ahead (suc zero) a p q r = absurd (q refl)
 other-ahead (suc (suc zero)) a p q r = absurd (r refl)
 other-ahead (suc (suc (suc m))) a p q r = refl
 
--- a test on all of xs, of which the first i have passed it
-module _ (test : ℕ → Bool) (xs : List ℕ) where
-  pub Tested : ℕ → Type 0
-  Tested i = every test xs ≡ every test (drop i xs)
+-- A search from the front over xs, of which i have been looked at: none of them is a writer, and `others` says whether one
+-- of them did not pass.
+module _ {A : Type 0} (writes passes : A → Bool) (xs : List A) where
+  pub record Scanned (others : Bool) (i : ℕ) : Type 0 where
+    pub writer : any writes xs ≡ any writes (drop i xs)
+    pub passed : every passes xs ≡ (not others && every passes (drop i xs))
 
-  tested-none : Tested 0
-  unfolding Tested
-  tested-none = refl
+  pub scan-none : Scanned false 0
+  scan-none = record { writer = refl; passed = refl }
 
-  tested-next : (i : ℕ) → i < length xs → test (getD xs i 0) ≡ true → Tested i → Tested (suc i)
-  unfolding Tested every
-  tested-next i h t e = e ∙ ap (every test) (drop-cons xs i 0 h) ∙ (rw t refl)
+  module _ (others : Bool) (i : ℕ) (d : A) (inside : i < length xs) (e : Scanned others i) where
+    opened : drop i xs ≡ getD xs i d ∷ drop (suc i) xs
+    opened = drop-cons xs i d inside
 
-  tested-fails : (i : ℕ) → i < length xs → test (getD xs i 0) ≡ false → Tested i → every test xs ≡ false
-  unfolding Tested every
-  tested-fails i h t e = e ∙ ap (every test) (drop-cons xs i 0 h) ∙ (rw t refl)
+    pub scan-writer : writes (getD xs i d) ≡ true → Writer ≡ held-by (any writes xs) (every passes xs)
+    unfolding any
+    scan-writer w = ap (λ b. held-by b (every passes xs)) (sym found)
+      where
+        found : any writes xs ≡ true
+        found = e .writer ∙ ap (any writes) opened ∙ (rw w refl)
 
-  tested-all : (i : ℕ) → length xs ≤ i → Tested i → every test xs ≡ true
-  unfolding Tested every
-  tested-all i h e = e ∙ ap (every test) (drop-of-length-le xs h)
+    module _ (w : writes (getD xs i d) ≡ false) where
+      on : any writes xs ≡ any writes (drop (suc i) xs)
+      unfolding any
+      on = e .writer ∙ ap (any writes) opened ∙ (rw w refl)
 
--- one access: the first `at` of the order, of which i have been looked at
-module _ (modes order : List ℕ) (at location asked : ℕ) where
-  pub Looked : ℕ → Type 0
-  Looked i = Tested (λ k. compatible (getD (row k modes) location 0) asked) (take at order) i
+      pub scan-pass : passes (getD xs i d) ≡ true → Scanned others (i + 1)
+      unfolding every
+      scan-pass p =
+          rw (add-one i)
+          record { writer = on; passed = e .passed ∙ ap (λ l. not others && every passes l) opened ∙ (rw p refl) }
 
-  pub looked-none : Looked 0
-  unfolding Looked
-  looked-none = tested-none (λ k. compatible (getD (row k modes) location 0) asked) (take at order)
+      pub scan-other : passes (getD xs i d) ≡ false → Scanned true (i + 1)
+      unfolding every
+      scan-other p =
+          rw (add-one i)
+          record {
+            writer = on;
+            passed = e .passed ∙ ap (λ l. not others && every passes l) opened ∙ (rw p (and-false (not others)));
+          }
+        where
+          and-false : (b : Bool) → (b && false) ≡ false
+          and-false true = refl
+          and-false false = refl
 
-  module _ (len : length order ≡ 128) (i task mode : ℕ) (t : task ≡ getD order i 0) (m : mode ≡ getD (row task modes) location 0) (h : i < at) (b : i < 128) where
-    here : compatible (getD (row (getD (take at order) i 0) modes) location 0) asked ≡ compatible mode asked
-    here =
-        ap (λ k. compatible (getD (row k modes) location 0) asked) (getD-take at order i 0 h ∙ sym t) ∙
-        ap (λ k. compatible k asked) (sym m)
+  pub scan-all :
+      (others : Bool) (i : ℕ) → length xs ≤ i → Scanned others i
+      → held-by false (not others) ≡ held-by (any writes xs) (every passes xs)
+  unfolding any every
+  scan-all others i h e =
+      ap (held-by false) (sym (e .passed ∙ ap (λ l. not others && every passes l) (drop-of-length-le xs h) ∙ and-true (not others)))
+      ∙ ap (λ b. held-by b (every passes xs)) (sym (e .writer ∙ ap (any writes) (drop-of-length-le xs h)))
+    where
+      and-true : (b : Bool) → (b && true) ≡ b
+      and-true true = refl
+      and-true false = refl
 
-    pub looked-next : true ≡ compatible mode asked → Looked i → Looked (i + 1)
-    unfolding Looked
-    looked-next c e =
+-- what a hold says: whether there is a writer, and whether all pass
+abbrev pub Says : Hold → Bool → Bool → Type 0
+Says Free writer passed = (writer ≡ false) × (passed ≡ true)
+Says Writer writer passed = writer ≡ true
+Says Others writer passed = (writer ≡ false) × (passed ≡ false)
+
+pub held-says : (h : Hold) (writer passed : Bool) → h ≡ held-by writer passed → Says h writer passed
+held-says h writer passed q = subst (λ x. Says x writer passed) (sym q) (sort writer passed)
+  where
+    sort : (w p : Bool) → Says (held-by w p) w p
+    sort true p = refl
+    sort false true = (refl, refl)
+    sort false false = (refl, refl)
+
+-- The accesses of two arrays.
+accesses-length : (ls ms : List ℕ) → length ls ≡ length ms → length (accesses ls ms) ≡ length ls
+unfolding accesses
+accesses-length [] ms h = refl
+accesses-length (a ∷ ls) [] h = let bad : ⊥ = omega arith in absurd bad
+accesses-length (a ∷ ls) (m ∷ ms) h = ap suc (accesses-length ls ms (omega arith))
+
+accesses-at : (ls ms : List ℕ) (i : ℕ) → i < length ls → i < length ms → getD (accesses ls ms) i (access 0 0) ≡ access (getD ls i 0) (getD ms i 0)
+unfolding accesses
+accesses-at [] ms i h k = let bad : ⊥ = omega arith in absurd bad
+accesses-at (a ∷ ls) [] i h k = let bad : ⊥ = omega arith in absurd bad
+accesses-at (a ∷ ls) (m ∷ ms) zero h k = refl
+accesses-at (a ∷ ls) (m ∷ ms) (suc i) h k = accesses-at ls ms i (omega arith) (omega arith)
+
+accesses-set : (ls ms : List ℕ) (i a m : ℕ) → accesses (set ls i a) (set ms i m) ≡ set (accesses ls ms) i (access a m)
+unfolding accesses
+accesses-set [] ms i a m = refl
+accesses-set (x ∷ ls) [] zero a m = refl
+accesses-set (x ∷ ls) [] (suc i) a m = refl
+accesses-set (x ∷ ls) (y ∷ ms) zero a m = refl
+accesses-set (x ∷ ls) (y ∷ ms) (suc i) a m = ap (λ l. access x y ∷ l) (accesses-set ls ms i a m)
+
+-- The accesses of a row, of which the first i locations have been looked at.
+module _ (wanted : List ℕ) where
+  pub Collected : List ℕ → List ℕ → ℕ → ℕ → Type 0
+  Collected ls ms count i = take count (accesses ls ms) ++ needs-from i (drop i wanted) ≡ needs-from 0 wanted
+
+  pub collect-none : (ls ms : List ℕ) → Collected ls ms 0 0
+  unfolding Collected
+  collect-none ls ms = refl
+
+  collect-opened : (i m : ℕ) → i < length wanted → getD wanted i 0 ≡ m → drop i wanted ≡ m ∷ drop (suc i) wanted
+  collect-opened i m h e = drop-cons wanted i 0 h ∙ ap (λ k. k ∷ drop (suc i) wanted) e
+
+  module _ (ls ms : List ℕ) (count i m : ℕ) (inside : i < length wanted) (here : m ≡ getD wanted i 0) (e : Collected ls ms count i) where
+    pub collect-skip : m ≡ 0 → Collected ls ms count (i + 1)
+    unfolding Collected needs-from
+    collect-skip z =
         rw (add-one i)
-        (tested-next (λ k. compatible (getD (row k modes) location 0) asked) (take at order) i (omega (arith, length-take at order)) (here ∙ sym c) e)
+        (ap (λ l. take count (accesses ls ms) ++ needs-from i l) (sym (collect-opened i 0 inside (sym here ∙ z))) ∙ e)
 
-    pub looked-fails : false ≡ compatible mode asked → Looked i → true ≡ not (clear modes (take at order) (access location asked))
-    unfolding Looked clear
-    looked-fails c e =
-        ap not (sym (tested-fails (λ k. compatible (getD (row k modes) location 0) asked) (take at order) i (omega (arith, length-take at order)) (here ∙ sym c) e))
+    pub collect-next :
+        m ≢ 0 → length ls ≡ 64 → length ms ≡ 64 → count < 64 → Collected (set ls count i) (set ms count m) (count + 1) (i + 1)
+    collect-next z la lm room = sort m here z
+      where
+        sort : (x : ℕ) → x ≡ getD wanted i 0 → x ≢ 0 → Collected (set ls count i) (set ms count x) (count + 1) (i + 1)
+        sort zero h z = absurd (z refl)
+        sort (suc x) h z =
+            unfold Collected needs-from in
+            rw (add-one i, add-one count, accesses-set ls ms count i (suc x))
+            (ap (λ l. l ++ needs-from (suc i) (drop (suc i) wanted))
+            (take-suc-set (accesses ls ms) count (access i (suc x)) (omega (arith, accesses-length ls ms (la ∙ sym lm))))
+            ∙ append-snoc (take count (accesses ls ms)) (access i (suc x)) (needs-from (suc i) (drop (suc i) wanted))
+            ∙ ap (λ l. take count (accesses ls ms) ++ needs-from i l) (sym (collect-opened i (suc x) inside (sym h)))
+            ∙ e)
 
-  pub looked-all : (i : ℕ) → length order ≡ 128 → (at ≤ i) → Looked i → false ≡ not (clear modes (take at order) (access location asked))
-  unfolding Looked clear
-  looked-all i len h e =
-      ap not (sym (tested-all (λ k. compatible (getD (row k modes) location 0) asked) (take at order) i (omega (arith, length-take at order)) e))
+  pub collect-all : (ls ms : List ℕ) (count i : ℕ) → length wanted ≤ i → Collected ls ms count i → take count (accesses ls ms) ≡ needs-from 0 wanted
+  unfolding Collected needs-from
+  collect-all ls ms count i h e =
+      sym (append-nil (take count (accesses ls ms)))
+      ∙ ap (λ l. take count (accesses ls ms) ++ needs-from i l) (sym (drop-of-length-le wanted h)) ∙ e
 
-  pub looked-whole : (i : ℕ) → length order ≡ 128 → (128 ≤ i) → Looked i → false ≡ not (clear modes (take at order) (access location asked))
-  unfolding Looked clear
-  looked-whole i len h e =
-      ap not (sym (tested-all (λ k. compatible (getD (row k modes) location 0) asked) (take at order) i (omega (arith, length-take at order)) e))
+-- One task ahead, and the first i accesses.
+module _ (modes : List ℕ) (task : ℕ) (w : Wanted) where
+  abbrev writes-at : Access → Bool
+  writes-at g = eqb (getD (row task modes) (g .location) 0) 2
 
--- all wanted modes, of which those of the first i locations have passed
-module _ (test : Access → Bool) (wanted : List ℕ) where
-  pub Wanted : ℕ → Type 0
-  Wanted i = every test (needs-from 0 wanted) ≡ every test (needs-from i (drop i wanted))
+  abbrev passes-at : Access → Bool
+  passes-at g = compatible (getD (row task modes) (g .location) 0) (g .mode)
 
-  pub wanted-none : Wanted 0
-  unfolding Wanted
-  wanted-none = refl
+  pub Looked : Bool → ℕ → Type 0
+  Looked others i = Scanned writes-at passes-at (accesses-of w) others i
 
-  opened : (i m : ℕ) → i < length wanted → getD wanted i 0 ≡ m → drop i wanted ≡ m ∷ drop (suc i) wanted
-  opened i m h e = drop-cons wanted i 0 h ∙ ap (λ k. k ∷ drop (suc i) wanted) e
+  abbrev pub told-by : Hold
+  told-by = held-by (writes-one modes (accesses-of w) task) (passes-all modes (accesses-of w) task)
 
-  pub wanted-skip : (i : ℕ) → i < length wanted → getD wanted i 0 ≡ 0 → Wanted i → Wanted (i + 1)
-  unfolding Wanted needs-from
-  wanted-skip i h z e = rw (add-one i) (e ∙ ap (λ l. every test (needs-from i l)) (opened i 0 h z))
+  pub looked-none : Looked false 0
+  unfolding Looked
+  looked-none = scan-none writes-at passes-at (accesses-of w)
 
-  pub wanted-next : (i m : ℕ) → i < length wanted → getD wanted i 0 ≡ m → m ≢ 0 → (flag : Bool) → flag ≡ false → flag ≡ not (test (access i m)) → Wanted i → Wanted (i + 1)
-  unfolding Wanted needs-from every
-  wanted-next i zero h q z flag b t e = absurd (z refl)
-  wanted-next i (suc m) h q z flag b t e =
-      rw (add-one i) (e ∙ ap (λ l. every test (needs-from i l)) (opened i (suc m) h q) ∙ (rw (passed (test (access i (suc m))) (sym b ∙ t)) refl))
+  module _ (la : length (w .locations) ≡ 64) (lm : length (w .asked) ≡ 64) where
+    inside : (i : ℕ) → i < 64 → i < w .count → i < length (accesses-of w)
+    unfolding accesses-of
+    inside i h k = omega (arith, accesses-length (w .locations) (w .asked) (la ∙ sym lm), length-take (w .count) (accesses (w .locations) (w .asked)))
+
+    pub looked-all : (others : Bool) (i : ℕ) → w .count ≤ i → Looked others i → held-by false (not others) ≡ told-by
+    unfolding Looked writes-one passes-all
+    looked-all others i h e =
+        scan-all writes-at passes-at (accesses-of w) others i
+        (unfold accesses-of in omega (arith, length-take (w .count) (accesses (w .locations) (w .asked)))) e
+
+    pub looked-whole : (others : Bool) (i : ℕ) → 64 ≤ i → Looked others i → held-by false (not others) ≡ told-by
+    unfolding Looked writes-one passes-all
+    looked-whole others i h e =
+        scan-all writes-at passes-at (accesses-of w) others i
+        (unfold accesses-of in
+        omega (arith, accesses-length (w .locations) (w .asked) (la ∙ sym lm), length-take (w .count) (accesses (w .locations) (w .asked)))) e
+
+    module _
+        (others : Bool) (i location mode : ℕ) (b : i < 64) (h : i < w .count) (a : location ≡ getD (w .locations) i 0)
+        (m : mode ≡ getD (row task modes) location 0) (e : Looked others i)
+      where
+        here : getD (accesses-of w) i (access 0 0) ≡ access location (getD (w .asked) i 0)
+        unfolding accesses-of
+        here =
+            getD-take (w .count) (accesses (w .locations) (w .asked)) i (access 0 0) h
+            ∙ accesses-at (w .locations) (w .asked) i (omega arith) (omega arith) ∙ ap (λ x. access x (getD (w .asked) i 0)) (sym a)
+
+        mode-here : writes-at (getD (accesses-of w) i (access 0 0)) ≡ eqb mode 2
+        mode-here = ap writes-at here ∙ ap (λ x. eqb x 2) (sym m)
+
+        passes-here : passes-at (getD (accesses-of w) i (access 0 0)) ≡ compatible mode (getD (w .asked) i 0)
+        passes-here = ap passes-at here ∙ ap (λ x. compatible x (getD (w .asked) i 0)) (sym m)
+
+        pub looked-writer : mode ≡ 2 → Writer ≡ told-by
+        unfolding Looked writes-one passes-all
+        looked-writer q =
+            scan-writer writes-at passes-at (accesses-of w) others i (access 0 0) (inside i b h) e (mode-here ∙ eq-eqb mode 2 q)
+
+        module _ (q : mode ≢ 2) where
+          pub looked-pass : true ≡ compatible mode (getD (w .asked) i 0) → Looked others (i + 1)
+          unfolding Looked
+          looked-pass p =
+              scan-pass writes-at passes-at (accesses-of w) others i (access 0 0) (inside i b h) e (mode-here ∙ ne-eqb mode 2 q)
+              (passes-here ∙ sym p)
+
+          pub looked-other : false ≡ compatible mode (getD (w .asked) i 0) → Looked true (i + 1)
+          unfolding Looked
+          looked-other p =
+              scan-other writes-at passes-at (accesses-of w) others i (access 0 0) (inside i b h) e (mode-here ∙ ne-eqb mode 2 q)
+              (passes-here ∙ sym p)
+
+-- The first `at` of the order, of which i have been looked at.
+module _ (modes order : List ℕ) (at : ℕ) (gs : List Access) where
+  pub Searched : Bool → ℕ → Type 0
+  Searched others i = Scanned (writes-one modes gs) (passes-all modes gs) (take at order) others i
+
+  pub searched-none : Searched false 0
+  unfolding Searched
+  searched-none = scan-none (writes-one modes gs) (passes-all modes gs) (take at order)
+
+  pub searched-all : (others : Bool) (i : ℕ) → at ≤ i → Searched others i → held-by false (not others) ≡ hold-ahead modes (take at order) gs
+  unfolding Searched hold-ahead
+  searched-all others i h e =
+      scan-all (writes-one modes gs) (passes-all modes gs) (take at order) others i (omega (arith, length-take at order)) e
+
+  pub searched-whole :
+      (others : Bool) (i : ℕ) → length order ≡ 128 → 128 ≤ i → Searched others i
+      → held-by false (not others) ≡ hold-ahead modes (take at order) gs
+  unfolding Searched hold-ahead
+  searched-whole others i len h e =
+      scan-all (writes-one modes gs) (passes-all modes gs) (take at order) others i (omega (arith, length-take at order)) e
+
+  module _
+      (len : length order ≡ 128) (others : Bool) (i task : ℕ) (b : i < 128) (h : i < at) (t : task ≡ getD order i 0) (e : Searched others i)
+      (hold : Hold) (told : hold ≡ held-by (writes-one modes gs task) (passes-all modes gs task))
     where
-      passed : (b : Bool) → false ≡ not b → b ≡ true
-      passed true p = refl
-      passed false p = p
+      task-here : task ≡ getD (take at order) i 0
+      task-here = t ∙ sym (getD-take at order i 0 h)
 
-  pub wanted-fails : (i m : ℕ) → i < length wanted → getD wanted i 0 ≡ m → m ≢ 0 → (flag : Bool) → flag ≡ true → flag ≡ not (test (access i m)) → Wanted i
-      → true ≡ not (every test (needs-from 0 wanted))
-  unfolding Wanted needs-from every
-  wanted-fails i zero h q z flag b t e = absurd (z refl)
-  wanted-fails i (suc m) h q z flag b t e =
-      let d : every test (needs-from 0 wanted) ≡ false =
-      e ∙ ap (λ l. every test (needs-from i l)) (opened i (suc m) h q) ∙ (rw (failed (test (access i (suc m))) (sym b ∙ t)) refl) in
-      ap not (sym d)
-    where
-      failed : (b : Bool) → true ≡ not b → b ≡ false
-      failed true p = p
-      failed false p = refl
+      says : Says hold (writes-one modes gs (getD (take at order) i 0)) (passes-all modes gs (getD (take at order) i 0))
+      says =
+          subst (λ k. Says hold (writes-one modes gs k) (passes-all modes gs k)) task-here
+          (held-says hold (writes-one modes gs task) (passes-all modes gs task) told)
 
-  pub wanted-all : (i : ℕ) → length wanted ≤ i → Wanted i → false ≡ not (every test (needs-from 0 wanted))
-  unfolding Wanted needs-from every
-  wanted-all i h e = ap not (sym (e ∙ ap (λ l. every test (needs-from i l)) (drop-of-length-le wanted h)))
+      pub searched-writer : hold ≡ Writer → Writer ≡ hold-ahead modes (take at order) gs
+      unfolding Searched hold-ahead
+      searched-writer q =
+          scan-writer (writes-one modes gs) (passes-all modes gs) (take at order) others i 0 (omega (arith, length-take at order)) e
+          (subst (λ x. Says x (writes-one modes gs (getD (take at order) i 0)) (passes-all modes gs (getD (take at order) i 0))) q says)
 
--- one wanted mode is one access
-nothing-needed : (n b : ℕ) → needs-from b (replicate n 0) ≡ []
-unfolding needs-from
-nothing-needed zero b = refl
-nothing-needed (suc n) b = nothing-needed n (suc b)
+      pub searched-pass : hold ≡ Free → Searched others (i + 1)
+      unfolding Searched
+      searched-pass q =
+          let s = subst (λ x. Says x (writes-one modes gs (getD (take at order) i 0)) (passes-all modes gs (getD (take at order) i 0))) q says in
+          scan-pass (writes-one modes gs) (passes-all modes gs) (take at order) others i 0 (omega (arith, length-take at order)) e (s .0) (s .1)
 
-one-from : (n b a m : ℕ) → a < n → m ≢ 0 → needs-from b (set (replicate n 0) a m) ≡ access (b + a) m ∷ []
-unfolding needs-from
-one-from zero b a m h z = let bad : ⊥ = omega arith in absurd bad
-one-from (suc n) b zero zero h z = absurd (z refl)
-one-from (suc n) b zero (suc m) h z =
-    rw (add-zero b) (ap (λ l. access b (suc m) ∷ l) (nothing-needed n (suc b)))
-one-from (suc n) b (suc a) m h z =
-    let q : suc b + a ≡ b + suc a = omega arith in
-    one-from n (suc b) a m (omega arith) z ∙ ap (λ k. access k m ∷ []) q
+      pub searched-other : hold ≡ Others → Searched true (i + 1)
+      unfolding Searched
+      searched-other q =
+          let s = subst (λ x. Says x (writes-one modes gs (getD (take at order) i 0)) (passes-all modes gs (getD (take at order) i 0))) q says in
+          scan-other (writes-one modes gs) (passes-all modes gs) (take at order) others i 0 (omega (arith, length-take at order)) e (s .0) (s .1)
 
-pub one-needed : (a m : ℕ) → a < 64 → m ≢ 0 → needs-from 0 (set no-modes a m) ≡ access a m ∷ []
-unfolding no-modes
-one-needed a m h z = one-from 64 0 a m h z ∙ ap (λ k. access k m ∷ []) (zero-add a)
+-- what a hold makes of a call with this effect
+abbrev pub outcome-by : Hold → Effect → Outcome
+outcome-by Free e = accept e
+outcome-by Writer e = refuse 19
+outcome-by Others e = refuse 20
 
--- the model's guards, where the table's rows are the modes of the tasks in the order
-module _ (r : Run) (n : ℕ) (modes : List ℕ) (rows : (k : ℕ) → In k (r .order) → row k modes ≡ task-of r k .modes) where
+-- the model's answer, where the table's rows are the modes of the tasks in the order
+module _ (r : Run) (n : ℕ) (modes : List ℕ) (rows : (k : ℕ) → In k (r .order) → row k modes ≡ task-of r k .modes) (gs : List Access) where
   every-same : {A : Type 0} (p q : A → Bool) (l : List A) → ((a : A) → In a l → p a ≡ q a) → every p l ≡ every q l
   unfolding every
   every-same p q [] h = refl
   every-same p q (a ∷ l) h = rw (h a (inl refl), every-same p q l (λ b i. h b (inr i))) refl
 
-  pub clear-allowed : (g : Access) → clear modes (ahead n (r .order)) g ≡ allowed r n g
-  unfolding clear allowed
-  clear-allowed g =
-      every-same (λ k. compatible (getD (row k modes) (g .location) 0) (g .mode))
-      (λ k. compatible (getD (task-of r k .modes) (g .location) 0) (g .mode)) (ahead n (r .order))
-      (λ k i. ap (λ l. compatible (getD l (g .location) 0) (g .mode)) (rows k (in-ahead k n (r .order) i)))
+  same-writers : any (writes-one modes gs) (ahead n (r .order)) ≡ any (Model.writes-one r gs) (ahead n (r .order))
+  unfolding writes-one
+  same-writers =
+      any-same (writes-one modes gs) (Model.writes-one r gs) (ahead n (r .order))
+      (λ k i. ap (λ l. any (λ g. eqb (getD l (g .location) 0) 2) gs) (rows k (in-ahead k n (r .order) i)))
 
-  pub all-allowed : (gs : List Access) → every (clear modes (ahead n (r .order))) gs ≡ every (allowed r n) gs
-  all-allowed gs = every-same (clear modes (ahead n (r .order))) (allowed r n) gs (λ g i. clear-allowed g)
+  same-passers : every (passes-all modes gs) (ahead n (r .order)) ≡ every (Model.passes-all r gs) (ahead n (r .order))
+  unfolding passes-all
+  same-passers =
+      every-same (passes-all modes gs) (Model.passes-all r gs) (ahead n (r .order))
+      (λ k i. ap (λ l. every (λ g. compatible (getD l (g .location) 0) (g .mode)) gs) (rows k (in-ahead k n (r .order) i)))
 
--- the same search, task by task from the front
-pub clear-front : (modes tasks : List ℕ) (gs : List Access)
-    → every (clear modes tasks) gs ≡ every (λ k. every (λ g. compatible (getD (row k modes) (g .location) 0) (g .mode)) gs) tasks
-unfolding clear
-clear-front modes tasks gs = every-swap (λ g k. compatible (getD (row k modes) (g .location) 0) (g .mode)) gs tasks
+  pub admit-by :
+      ((g : Access) → In g gs → Asks r n g) → (h : Hold) → h ≡ hold-ahead modes (ahead n (r .order)) gs → (e : Effect)
+      → admit r n gs e ≡ outcome-by h e
+  unfolding hold-ahead
+  admit-by asks h q e = sort h (held-says h (any (writes-one modes gs) (ahead n (r .order))) (every (passes-all modes gs) (ahead n (r .order))) q)
+    where
+      sort :
+          (x : Hold) → Says x (any (writes-one modes gs) (ahead n (r .order))) (every (passes-all modes gs) (ahead n (r .order)))
+          → admit r n gs e ≡ outcome-by x e
+      sort Free s = admit-free r n gs e (sym same-passers ∙ s .1)
+      sort Writer s = admit-writer r n gs e asks (sym same-writers ∙ s)
+      sort Others s = admit-others r n gs e asks (sym same-writers ∙ s .0) (sym same-passers ∙ s .1)

@@ -1,14 +1,41 @@
--- Who may stand ahead of an access, by the table of modes.
+-- What the tasks ahead do to the accesses of a call, by the table of modes.
 use Prim.Native.Nat.{ℕ}
-use mathlib.Core.List.{List}
-use mathlib.Core.Bool.{Bool}
-use lib.ListN.{getD}
-use Rattle.semantics.specs.Access.{Access, every, compatible}
+use mathlib.Core.List.{List, [], _∷_}
+use mathlib.Core.Bool.{Bool, true, false}
+use lib.ListN.{getD, take}
+use lib.Dec.{eqb}
+use Rattle.semantics.specs.Access.{Access, every, any, compatible}
+use Rattle.tables.specs.declared.Hold.{Hold}
+use Rattle.tables.specs.declared.Hold.the-variants.{Free, Writer, Others}
+use Rattle.tables.specs.declared.Wanted.{Wanted}
 use Rattle.tables.specs.Rows.{row}
 
 abbrev pub access : ℕ → ℕ → Access
 access location mode = record { location = location; mode = mode }
 
--- none of these tasks stands in the way of this access
-unfoldable pub clear : List ℕ → List ℕ → Access → Bool
-clear modes tasks g = every (λ k. compatible (getD (row k modes) (g .location) 0) (g .mode)) tasks
+-- each location with its mode
+unfoldable pub accesses : List ℕ → List ℕ → List Access
+accesses [] ms = []
+accesses (a ∷ ls) [] = []
+accesses (a ∷ ls) (m ∷ ms) = access a m ∷ accesses ls ms
+
+unfoldable pub accesses-of : Wanted → List Access
+accesses-of w = take (w .count) (accesses (w .locations) (w .asked))
+
+-- task k has mode write at the location of one of these accesses
+unfoldable pub writes-one : List ℕ → List Access → ℕ → Bool
+writes-one modes gs k = any (λ g. eqb (getD (row k modes) (g .location) 0) 2) gs
+
+-- task k may stand ahead of all of them
+unfoldable pub passes-all : List ℕ → List Access → ℕ → Bool
+passes-all modes gs k = every (λ g. compatible (getD (row k modes) (g .location) 0) (g .mode)) gs
+
+-- what comes of it that there is a writer, and that all pass
+abbrev pub held-by : Bool → Bool → Hold
+held-by true passed = Writer
+held-by false true = Free
+held-by false false = Others
+
+-- what these tasks do to these accesses
+unfoldable pub hold-ahead : List ℕ → List ℕ → List Access → Hold
+hold-ahead modes tasks gs = held-by (any (writes-one modes gs) tasks) (every (passes-all modes gs) tasks)

@@ -19,6 +19,23 @@ pub struct Granting {
     pub modes: [u8; 64],
 }
 
+// What the tasks ahead do to the accesses of a call.
+pub enum Hold {
+    // They all may stand ahead.
+    Free,
+    // One of them has mode write at one of the locations.
+    Writer,
+    // None has, and some may not stand ahead.
+    Others,
+}
+
+// The accesses of a call: the first `count` locations, and the mode that each is asked for in.
+pub struct Wanted {
+    pub count: usize,
+    pub locations: [u8; 64],
+    pub asked: [u8; 64],
+}
+
 mod footprint;
 mod modes;
 mod number;
@@ -37,7 +54,7 @@ pub use number::child_number;
 pub use order::insert;
 pub use order::position;
 pub use order::remove;
-pub use search::blocked;
-pub use search::held;
 pub use search::passable;
+pub use search::search_ahead;
 pub use search::wanted_at;
+pub use search::wanted_of;

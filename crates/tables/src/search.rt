@@ -1,14 +1,16 @@
-// The search of the tasks ahead: whether any of them stands in the way of an access.
+// The search of the tasks ahead: what they do to the accesses of a call.
 ghost use Prim.Native.Nat.{_<_};
 ghost use mathlib.Core.Path.{_≡_};
-ghost use mathlib.Core.Bool.{not};
-ghost use lib.ListN.{length, take, set};
-ghost use Rattle.semantics.specs.Run.{no-modes};
-ghost use Rattle.semantics.specs.Access.{every, compatible};
+ghost use mathlib.Core.List.{[], _∷_};
+ghost use mathlib.Core.Bool.{false, not};
+ghost use lib.ListN.{length, take};
+ghost use Rattle.semantics.specs.Access.{compatible};
 ghost use Rattle.semantics.specs.Plan.{needs-from};
-ghost use Rattle.tables.specs.Ahead.{access, clear};
+ghost use Rattle.tables.specs.Rows.{row};
+ghost use Rattle.tables.specs.Ahead.{access, accesses-of, writes-one, passes-all, held-by, hold-ahead};
+use crate::Hold;
+use crate::Wanted;
 use crate::modes::mode_at;
-use crate::modes::with_mode;
 
 // A byte as an index.
 pub fn wide(x: u8) -> usize
@@ -33,55 +35,109 @@ pub fn passable(mode: u8, asked: u8) -> bool
     false
 }
 
-// Whether some task among the first `at` of the order stands in the way of one access.
-pub fn held<'a>(
+// The accesses of a task's start: every location where its mode isn't 0, in that mode.
+pub fn wanted_of(modes: &[u8; 8192], task: usize) -> Wanted
+    ensures { λ r. ⌜ (length (now (modes .entry)) ≡ 8192 → task < 128 → accesses-of r ≡ needs-from 0 (row task (now (modes .entry)))) ⌝ }
+{
+    let mut locations = [0u8; 64];
+    let mut asked = [0u8; 64];
+    let mut count = 0;
+    let mut i = 0;
+    while i < 64 {
+        let mode = mode_at(modes, task, i);
+        if mode == 0 {
+            i += 1;
+            continue;
+        }
+        locations[count] = i as u8;
+        asked[count] = mode;
+        count += 1;
+        i += 1;
+    }
+    Wanted {
+        count,
+        locations,
+        asked,
+    }
+}
+
+// One access.
+pub fn wanted_at(location: usize, mode: u8) -> Wanted
+    ensures { λ r. ⌜ (location < 64 → accesses-of r ≡ access location mode ∷ []) ⌝ }
+{
+    let mut locations = [0u8; 64];
+    let mut asked = [0u8; 64];
+    if location < 64 {
+        locations[0] = location as u8;
+        asked[0] = mode;
+    }
+    Wanted {
+        count: 1,
+        locations,
+        asked,
+    }
+}
+
+// No writer was found, and perhaps others in the way.
+fn without_writer(others: bool) -> Hold
+    ensures { λ r. ⌜ r ≡ held-by false (not others) ⌝ }
+{
+    if others { Hold::Others } else { Hold::Free }
+}
+
+// What one task ahead does to these accesses.
+fn hold_of(modes: &[u8; 8192], task: usize, wanted: Wanted) -> Hold
+    ensures { λ r. ⌜ (length (now (modes .entry)) ≡ 8192 → r ≡ held-by (writes-one (now (modes .entry)) (accesses-of wanted) task) (passes-all (now (modes .entry)) (accesses-of wanted) task)) ⌝ }
+{
+    let locations = wanted.locations;
+    let asked = wanted.asked;
+    let mut others = false;
+    let mut i = 0;
+    while i < 64 {
+        if wanted.count <= i {
+            return without_writer(others);
+        }
+        let mode = mode_at(modes, task, wide(locations[i]));
+        if mode == 2 {
+            return Hold::Writer;
+        }
+        if passable(mode, asked[i]) {
+            i += 1;
+            continue;
+        }
+        others = true;
+        i += 1;
+    }
+    without_writer(others)
+}
+
+// What the first `at` of the order do to these accesses, task by task from the front, to the first that has mode write at
+// one of the locations.
+pub fn search_ahead<'a>(
     order: &'a [u8; 128],
     at: usize,
     modes: &'a [u8; 8192],
-    location: usize,
-    asked: u8,
-) -> bool
-    ensures { λ r. ⌜ (length (now (order .entry)) ≡ 128 → length (now (modes .entry)) ≡ 8192 → r ≡ not (clear (now (modes .entry)) (take at (now (order .entry))) (access location asked))) ⌝ }
+    wanted: Wanted,
+) -> Hold
+    ensures { λ r. ⌜ (length (now (order .entry)) ≡ 128 → length (now (modes .entry)) ≡ 8192 → r ≡ hold-ahead (now (modes .entry)) (take at (now (order .entry))) (accesses-of wanted)) ⌝ }
 {
+    let mut others = false;
     let mut i = 0;
     while i < 128 {
         if at <= i {
-            return false;
+            return without_writer(others);
         }
-        let task = wide(order[i]);
-        let mode = mode_at(modes, task, location);
-        if passable(mode, asked) {
-            i += 1;
-        } else {
-            return true;
+        let hold = hold_of(modes, wide(order[i]), wanted);
+        match hold {
+            Hold::Writer => return Hold::Writer,
+            Hold::Others => {
+                others = true;
+                i += 1;
+            }
+            Hold::Free => {
+                i += 1;
+            }
         }
     }
-    false
-}
-
-// Whether some task among the first `at` of the order stands in the way of some wanted mode that isn't 0, location by
-// location.
-pub fn blocked<'a>(order: &'a [u8; 128], at: usize, modes: &'a [u8; 8192], wanted: [u8; 64]) -> bool
-    ensures { λ r. ⌜ (length (now (order .entry)) ≡ 128 → length (now (modes .entry)) ≡ 8192 → r ≡ not (every (clear (now (modes .entry)) (take at (now (order .entry)))) (needs-from 0 wanted))) ⌝ }
-{
-    let mut location = 0;
-    while location < 64 {
-        let asked = wanted[location];
-        if asked == 0 {
-            location += 1;
-            continue;
-        }
-        if held(order, at, modes, location, asked) {
-            return true;
-        }
-        location += 1;
-    }
-    false
-}
-
-// One wanted mode, and none elsewhere.
-pub fn wanted_at(location: usize, mode: u8) -> [u8; 64]
-    ensures { λ r. ⌜ r ≡ set no-modes location mode ⌝ }
-{
-    with_mode([0u8; 64], location, mode)
+    without_writer(others)
 }

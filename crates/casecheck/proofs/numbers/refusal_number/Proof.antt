@@ -32,6 +32,9 @@ enum-told-8 c = search needs
 enum-told-9 : tie.Need-enum-told-9
 enum-told-9 c = search needs
 
+enum-told-10 : tie.Need-enum-told-10
+enum-told-10 c = search needs
+
 returns : tie.Need-returns
 unfolding refusal-number
 returns c = search needs
@@ -68,6 +71,10 @@ returns-9 : tie.Need-returns-9
 unfolding refusal-number
 returns-9 c = search needs
 
+returns-10 : tie.Need-returns-10
+unfolding refusal-number
+returns-10 c = search needs
+
 pub refusal-number-spec : {M : Type 1} → statement M
 refusal-number-spec =
     tie.close
@@ -81,6 +88,7 @@ refusal-number-spec =
     enum-told-7
     enum-told-8
     enum-told-9
+    enum-told-10
     returns
     returns-2
     returns-3
@@ -89,4 +97,5 @@ refusal-number-spec =
     returns-6
     returns-7
     returns-8
-    returns-9)
+    returns-9
+    returns-10)

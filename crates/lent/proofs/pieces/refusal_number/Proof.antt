@@ -32,6 +32,9 @@ enum-told-8 c = search needs
 enum-told-9 : tie.Need-enum-told-9
 enum-told-9 c = search needs
 
+enum-told-10 : tie.Need-enum-told-10
+enum-told-10 c = search needs
+
 returns : tie.Need-returns
 returns c = unfold refusal-number in sym (ap refusal-number (c .enum-told .given .1))
 
@@ -59,6 +62,9 @@ returns-8 c = unfold refusal-number in sym (ap refusal-number (c .enum-told8 .gi
 returns-9 : tie.Need-returns-9
 returns-9 c = unfold refusal-number in sym (ap refusal-number (c .enum-told9 .given .1))
 
+returns-10 : tie.Need-returns-10
+returns-10 c = unfold refusal-number in sym (ap refusal-number (c .enum-told10 .given .1))
+
 pub refusal-number-spec : {M : Type 1} → statement M
 refusal-number-spec =
     tie.close
@@ -72,6 +78,7 @@ refusal-number-spec =
     enum-told-7
     enum-told-8
     enum-told-9
+    enum-told-10
     returns
     returns-2
     returns-3
@@ -80,4 +87,5 @@ refusal-number-spec =
     returns-6
     returns-7
     returns-8
-    returns-9)
+    returns-9
+    returns-10)

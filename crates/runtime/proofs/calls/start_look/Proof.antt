@@ -1,15 +1,21 @@
 -- The tests of a start, in the order of its refusals.
 -- Assumes nothing.
 use Prim.Native.Nat.{ℕ}
-use mathlib.Core.Path.{sym, ap, subst, _∙_}
+use mathlib.Core.Path.{_≡_, sym, ap, subst, _∙_}
 use denote.Ref.{now}
 use Rattle.semantics.specs.Answers.{refusal-number}
 use Rattle.semantics.specs.Plan.{start}
+use Rattle.tables.specs.Ahead.{accesses-of}
+use Rattle.tables.specs.declared.Hold.{Hold}
+use Rattle.tables.specs.declared.Hold.the-variants.{Free, Writer, Others}
+use Rattle.tables.proofs.SearchLaws.{outcome-by}
 use Rattle.runtime.specs.declared.Run.{Run}
 use Rattle.runtime.specs.declared.Located.the-variants.{At}
-use Rattle.runtime.specs.Parts.{LocatedAs}
+use Rattle.runtime.specs.View.{SoundRun}
+use Rattle.runtime.specs.Calls.{decided}
+use Rattle.runtime.specs.Parts.{LocatedAs, record-of, start-effect}
 use Rattle.runtime.specs.Changes.{with-parts}
-use Rattle.runtime.proofs.CallLaws.{started-again, start-blocked, start-free}
+use Rattle.runtime.proofs.CallLaws.{started-again, start-looked}
 use borrow.Author.Needs.{needs}
 use Rattle.runtime.proofs.calls.start_look.Statement.{statement}
 use Rattle.runtime.proofs.calls.start_look.Tie as tie
@@ -30,6 +36,19 @@ found : (c : tie.After-found2) (run : Run) → LocatedAs (run-at c run) (task-at
 found c run =
     subst (LocatedAs (run-at c run) (task-at c)) (c .found2 .given .1) (c .before .before .place-of .ensures (run-at c run))
 
+-- by the search
+looked :
+    (c : tie.After-search-ahead) (x : Hold) → c .search-ahead .result ≡ x → (run : Run)
+    → record-of run (c .before .before .before .before .before .before .before .before .args .task) ≡ c .before .before .before .before .before .before .before .before .args .own
+    → let at = c .before .before .before .before .before in
+    SoundRun (run-at at run) → decided (run-at at run) start (task-at at) ≡ outcome-by x (start-effect (run-at at run) (task-at at))
+looked c x is run same s =
+    let at = c .before .before .before .before .before in
+    let wanted = c .before .wanted-of in
+    start-looked (run-at at run) (task-at at) (found at run .0) s (place-at at) (found at run .1 s)
+    (ap (λ t. t .state) same ∙ c .before .before .if1 .left) (accesses-of (wanted .result)) (wanted .ensures (s .modes) (found at run .0))
+    (c .search-ahead .result) (c .search-ahead .ensures (s .order) (s .modes)) x is
+
 place-of-requires : tie.Need-place-of-requires
 place-of-requires c κs = search needs
 
@@ -47,42 +66,43 @@ returns c =
     started-again (run-at at run) (task-at at) (found at run .0) s (place-at at) (found at run .1 s)
     (λ q. c .if1 .taken (ap (λ t. t .state) (sym same) ∙ q))
 
-row-of-requires : tie.Need-row-of-requires
-row-of-requires c κs = search needs
+wanted-of-requires : tie.Need-wanted-of-requires
+wanted-of-requires c κs = search needs
 
-blocked-requires : tie.Need-blocked-requires
-blocked-requires c κs = search needs
+search-ahead-requires : tie.Need-search-ahead-requires
+search-ahead-requires c κs = search needs
+
+enum-told : tie.Need-enum-told
+enum-told c = search needs
+
+enum-told-2 : tie.Need-enum-told-2
+enum-told-2 c = search needs
+
+enum-told-3 : tie.Need-enum-told-3
+enum-told-3 c = search needs
 
 returns-2 : tie.Need-returns-2
-unfolding refusal-number
 returns-2 c =
-    let at = c .before .before .before .before .before .before in
-    let row = c .before .before .row-of in
-    λ run same s.
-    start-blocked (run-at at run) (task-at at) (found at run .0) s (place-at at) (found at run .1 s)
-    (ap (λ t. t .state) same ∙ c .before .before .before .if1 .left) (row .result)
-    (row .ensures (s .modes) (found at run .0)) (c .before .blocked .result) (c .before .blocked .ensures (s .order) (s .modes)) (c .if2 .taken)
-
-returns-3 : tie.Need-returns-3
-returns-3 c =
     let a = c .before .before .before .before .args in
     λ run same s.
     let at = with-parts (run .tables) (run .memory) (now (a .modes)) (now (a .order)) (a .left) run in
     subst (LocatedAs at (a .task)) (c .before .found .given .1) (c .before .before .before .place-of .ensures at) s start
 
-returns-4 : tie.Need-returns-4
-returns-4 c =
-    let at = c .before .before .before .before .before .before in
-    let row = c .before .before .row-of in
+returns-3 : tie.Need-returns-3
+returns-3 c =
+    let at = c .before .before .before .before .before .before .before in
     λ run same. (
       found at run .0,
-      λ s. (
-        found at run .1 s,
-        start-free (run-at at run) (task-at at) (found at run .0) s (place-at at) (found at run .1 s)
-            (ap (λ t. t .state) same ∙ c .before .before .before .if1 .left) (row .result)
-            (row .ensures (s .modes) (found at run .0)) (c .before .blocked .result) (c .before .blocked .ensures (s .order) (s .modes)) (c .if2 .left),
-      ),
+      λ s. (found at run .1 s, looked (c .before .before) Free (c .enum-told .given .1) run same s),
     )
+
+returns-4 : tie.Need-returns-4
+unfolding refusal-number
+returns-4 c = looked (c .before .before) Writer (c .enum-told2 .given .1)
+
+returns-5 : tie.Need-returns-5
+unfolding refusal-number
+returns-5 c = looked (c .before .before) Others (c .enum-told3 .given .1)
 
 pub start-look-spec : {M : Type 1} → statement M
 start-look-spec =
@@ -92,8 +112,12 @@ start-look-spec =
     enum-known-found
     enum-known-found-2
     returns
-    row-of-requires
-    blocked-requires
+    wanted-of-requires
+    search-ahead-requires
+    enum-told
+    enum-told-2
+    enum-told-3
     returns-2
     returns-3
-    returns-4)
+    returns-4
+    returns-5)

@@ -1,16 +1,13 @@
--- A fault, held back, or free.
+-- A fault, else by the search.
 -- Assumes nothing.
 use denote.Ref.{now}
+use Rattle.semantics.specs.Answers.{refusal-number}
+use Rattle.tables.specs.declared.Hold.the-variants.{Free, Writer, Others}
 use Rattle.runtime.specs.Steps.{looking}
-use Rattle.runtime.proofs.StepLaws.{access-faults, access-held, access-free}
+use Rattle.runtime.proofs.StepLaws.{access-faults, access-looked}
 use borrow.Author.Needs.{needs}
 use Rattle.runtime.proofs.parts.access_of.Statement.{statement}
 use Rattle.runtime.proofs.parts.access_of.Tie as tie
-use Rattle.runtime.proofs.parts.access_of.Reads as reads
-use Rattle.runtime.proofs.parts.access_of.Lts as lts
-use Rattle.tables.proofs.access_fault.Reads as access-fault-reads
-use Rattle.tables.proofs.mode_at.Reads as mode-at-reads
-use Rattle.tables.proofs.held.Reads as held-reads
 
 mode-at-requires : tie.Need-mode-at-requires
 mode-at-requires c κs = search needs
@@ -18,31 +15,75 @@ mode-at-requires c κs = search needs
 access-fault-requires : tie.Need-access-fault-requires
 access-fault-requires c κs = search needs
 
-held-requires : tie.Need-held-requires
-held-requires c κs = search needs
-
 returns : tie.Need-returns
 returns c =
-    let a = c .before .before .before .before .args in
+    let a = c .before .before .before .args in
     λ run.
-    access-faults (looking (now (a .order)) (now (a .modes)) run) (a .task) (a .place) (a .location) (a .asked) (c .before .before .before .mode-at .result) (c .before .before .access-fault .result)
-    (c .before .before .before .mode-at .ensures) (c .before .before .access-fault .ensures) (c .if1 .taken)
+    access-faults (looking (now (a .order)) (now (a .modes)) run) (a .task) (a .place) (a .location) (a .asked) (c .before .before .mode-at .result) (c .before .access-fault .result)
+    (c .before .before .mode-at .ensures) (c .before .access-fault .ensures) (c .if1 .taken)
+
+wanted-at-requires : tie.Need-wanted-at-requires
+wanted-at-requires c κs = search needs
+
+search-ahead-requires : tie.Need-search-ahead-requires
+search-ahead-requires c κs = search needs
+
+enum-told : tie.Need-enum-told
+enum-told c = search needs
+
+enum-told-2 : tie.Need-enum-told-2
+enum-told-2 c = search needs
+
+enum-told-3 : tie.Need-enum-told-3
+enum-told-3 c = search needs
 
 returns-2 : tie.Need-returns-2
 returns-2 c =
-    let a = c .before .before .before .before .before .args in
+    let own = c .before .before .before .before .before .before .mode-at in
+    let fault = c .before .before .before .before .before .access-fault in
+    let wanted = c .before .before .before .wanted-at in
+    let hold = c .before .before .search-ahead in
+    let a = c .before .before .before .before .before .before .before .args in
     λ run.
-    access-held (looking (now (a .order)) (now (a .modes)) run) (a .task) (a .place) (a .location) (a .asked) (c .before .before .before .before .mode-at .result) (c .before .before .before .access-fault .result)
-    (c .before .before .before .before .mode-at .ensures) (c .before .before .before .access-fault .ensures) (c .before .if1 .left) (c .before .before .held .result) (c .before .before .held .ensures) (c .if2 .taken)
+    access-looked (looking (now (a .order)) (now (a .modes)) run) (a .task) (a .place) (a .location) (a .asked) (own .result) (fault .result) (own .ensures) (fault .ensures)
+    (c .before .before .before .before .if1 .left) (wanted .result) (wanted .ensures) (hold .result) (hold .ensures) Free (c .enum-told .given .1)
 
 returns-3 : tie.Need-returns-3
+unfolding refusal-number
 returns-3 c =
-    let a = c .before .before .before .before .before .args in
+    let own = c .before .before .before .before .before .before .mode-at in
+    let fault = c .before .before .before .before .before .access-fault in
+    let wanted = c .before .before .before .wanted-at in
+    let hold = c .before .before .search-ahead in
+    let a = c .before .before .before .before .before .before .before .args in
     λ run.
-    access-free (looking (now (a .order)) (now (a .modes)) run) (a .task) (a .place) (a .location) (a .asked) (c .before .before .before .before .mode-at .result) (c .before .before .before .access-fault .result)
-    (c .before .before .before .before .mode-at .ensures) (c .before .before .before .access-fault .ensures) (c .before .if1 .left) (c .before .before .held .result) (c .before .before .held .ensures) (c .if2 .left)
+    access-looked (looking (now (a .order)) (now (a .modes)) run) (a .task) (a .place) (a .location) (a .asked) (own .result) (fault .result) (own .ensures) (fault .ensures)
+    (c .before .before .before .before .if1 .left) (wanted .result) (wanted .ensures) (hold .result) (hold .ensures) Writer (c .enum-told2 .given .1)
+
+returns-4 : tie.Need-returns-4
+unfolding refusal-number
+returns-4 c =
+    let own = c .before .before .before .before .before .before .mode-at in
+    let fault = c .before .before .before .before .before .access-fault in
+    let wanted = c .before .before .before .wanted-at in
+    let hold = c .before .before .search-ahead in
+    let a = c .before .before .before .before .before .before .before .args in
+    λ run.
+    access-looked (looking (now (a .order)) (now (a .modes)) run) (a .task) (a .place) (a .location) (a .asked) (own .result) (fault .result) (own .ensures) (fault .ensures)
+    (c .before .before .before .before .if1 .left) (wanted .result) (wanted .ensures) (hold .result) (hold .ensures) Others (c .enum-told3 .given .1)
 
 pub access-of-spec : {M : Type 1} → statement M
 access-of-spec =
     tie.close
-    (tie.spec mode-at-requires access-fault-requires held-requires returns returns-2 returns-3)
+    (tie.spec
+    mode-at-requires
+    access-fault-requires
+    returns
+    wanted-at-requires
+    search-ahead-requires
+    enum-told
+    enum-told-2
+    enum-told-3
+    returns-2
+    returns-3
+    returns-4)

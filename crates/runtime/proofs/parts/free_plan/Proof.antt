@@ -3,7 +3,7 @@
 use mathlib.Core.Path.{sym, ap, subst}
 use Rattle.runtime.proofs.StepLaws.{const-free, add-free, sub-free, less-free, skip-free, spawn-free}
 use Rattle.runtime.specs.Steps.{FreeAs}
-use Rattle.runtime.specs.declared.StepPlan.the-variants.{Held, Assign, Pass, Spawn}
+use Rattle.runtime.specs.declared.StepPlan.the-variants.{Assign, Pass, Spawn}
 use borrow.Author.Needs.{needs}
 use Rattle.runtime.proofs.parts.free_plan.Statement.{statement}
 use Rattle.runtime.proofs.parts.free_plan.Tie as tie
@@ -105,15 +105,15 @@ returns-6 c =
 
 returns-7 : tie.Need-returns-7
 returns-7 c =
-    subst (λ i. FreeAs (c .before .before .args .registers) i Held) (sym (c .enum-told .given .1)) tt
+    subst (λ i. FreeAs (c .before .before .args .registers) i (Pass 0)) (sym (c .enum-told .given .1)) tt
 
 returns-8 : tie.Need-returns-8
 returns-8 c =
-    subst (λ i. FreeAs (c .before .before .args .registers) i Held) (sym (c .enum-told2 .given .1)) tt
+    subst (λ i. FreeAs (c .before .before .args .registers) i (Pass 0)) (sym (c .enum-told2 .given .1)) tt
 
 returns-9 : tie.Need-returns-9
 returns-9 c =
-    subst (λ i. FreeAs (c .before .before .args .registers) i Held) (sym (c .enum-told3 .given .1)) tt
+    subst (λ i. FreeAs (c .before .before .args .registers) i (Pass 0)) (sym (c .enum-told3 .given .1)) tt
 
 pub free-plan-spec : {M : Type 1} → statement M
 free-plan-spec =

@@ -26,11 +26,11 @@ access-of-requires c κs = search needs
 enum-known-found : tie.Need-enum-known-found
 enum-known-found c = search needs
 
+enum-known-found-2 : tie.Need-enum-known-found-2
+enum-known-found-2 c = search needs
+
 enum-told : tie.Need-enum-told
 enum-told c = search needs
-
-enum-told-2 : tie.Need-enum-told-2
-enum-told-2 c = search needs
 
 value-at-requires : tie.Need-value-at-requires
 value-at-requires c κs = search needs
@@ -46,12 +46,12 @@ returns c =
 
 returns-2 : tie.Need-returns-2
 returns-2 c =
-    let a = c .before .before .before .before .args in
-    let at = c .before .before .before .register-at in
+    let a = c .before .before .before .before .before .args in
+    let at = c .before .before .before .before .register-at in
     λ run m e.
     let it = looking (now (a .order)) (now (a .modes)) run in
-    load-held it (a .task) (a .place) (c .before .before .before .before .pre) (a .target) (a .from) (at .result) (at .ensures ∙ ap (λ rs. getD rs (a .from) 0) (sym e))
-    (subst (AccessAs it (a .task) (a .place) (at .result) 1) (c .enum-told .given .1) (c .before .before .access-of .ensures run))
+    load-held it (a .task) (a .place) (c .before .before .before .before .before .pre) (a .target) (a .from) (at .result) (at .ensures ∙ ap (λ rs. getD rs (a .from) 0) (sym e))
+    (c .before .found2 .given .0 .0) (subst (AccessAs it (a .task) (a .place) (at .result) 1) (c .before .found2 .given .1) (c .before .before .before .access-of .ensures run))
 
 returns-3 : tie.Need-returns-3
 returns-3 c =
@@ -60,7 +60,7 @@ returns-3 c =
     λ run m e.
     let it = looking (now (a .order)) (now (a .modes)) run in
     load-free it (a .task) (a .place) (c .before .before .before .before .before .pre) (a .target) (a .from) (at .result) (at .ensures ∙ ap (λ rs. getD rs (a .from) 0) (sym e)) (c .value-at .result) (c .value-at .ensures ∙ ap (λ l. getD l (at .result) 0) (sym m))
-    (subst (AccessAs it (a .task) (a .place) (at .result) 1) (c .before .enum-told2 .given .1) (c .before .before .before .access-of .ensures run))
+    (subst (AccessAs it (a .task) (a .place) (at .result) 1) (c .before .enum-told .given .1) (c .before .before .before .access-of .ensures run))
 
 pub load-plan-spec : {M : Type 1} → statement M
 load-plan-spec =
@@ -70,8 +70,8 @@ load-plan-spec =
     cast-location
     access-of-requires
     enum-known-found
+    enum-known-found-2
     enum-told
-    enum-told-2
     value-at-requires
     returns
     returns-2

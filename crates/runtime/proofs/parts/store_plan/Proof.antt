@@ -25,11 +25,11 @@ access-of-requires c κs = search needs
 enum-known-found : tie.Need-enum-known-found
 enum-known-found c = search needs
 
+enum-known-found-2 : tie.Need-enum-known-found-2
+enum-known-found-2 c = search needs
+
 enum-told : tie.Need-enum-told
 enum-told c = search needs
-
-enum-told-2 : tie.Need-enum-told-2
-enum-told-2 c = search needs
 
 register-at-requires-2 : tie.Need-register-at-requires-2
 register-at-requires-2 c κs = search needs
@@ -45,12 +45,12 @@ returns c =
 
 returns-2 : tie.Need-returns-2
 returns-2 c =
-    let a = c .before .before .before .before .args in
-    let at = c .before .before .before .register-at in
+    let a = c .before .before .before .before .before .args in
+    let at = c .before .before .before .before .register-at in
     λ l run m e.
     let it = looking (now (a .order)) (now (a .modes)) run in
-    store-held it (a .task) (a .place) (c .before .before .before .before .pre) (a .to) (a .source) (at .result) (at .ensures ∙ ap (λ rs. getD rs (a .to) 0) (sym e))
-    (subst (AccessAs it (a .task) (a .place) (at .result) 2) (c .enum-told .given .1) (c .before .before .access-of .ensures run))
+    store-held it (a .task) (a .place) (c .before .before .before .before .before .pre) (a .to) (a .source) (at .result) (at .ensures ∙ ap (λ rs. getD rs (a .to) 0) (sym e))
+    (c .before .found2 .given .0 .0) (subst (AccessAs it (a .task) (a .place) (at .result) 2) (c .before .found2 .given .1) (c .before .before .before .access-of .ensures run))
 
 returns-3 : tie.Need-returns-3
 returns-3 c =
@@ -59,7 +59,7 @@ returns-3 c =
     λ l run m e.
     let it = looking (now (a .order)) (now (a .modes)) run in
     store-free it (a .task) (a .place) (c .before .before .before .before .before .pre) (a .to) (a .source) (at .result) (at .ensures ∙ ap (λ rs. getD rs (a .to) 0) (sym e)) (c .register-at2 .result) (c .register-at2 .ensures ∙ ap (λ rs. getD rs (a .source) 0) (sym e))
-    (subst (AccessAs it (a .task) (a .place) (at .result) 2) (c .before .enum-told2 .given .1) (c .before .before .before .access-of .ensures run))
+    (subst (AccessAs it (a .task) (a .place) (at .result) 2) (c .before .enum-told .given .1) (c .before .before .before .access-of .ensures run))
 
 pub store-plan-spec : {M : Type 1} → statement M
 store-plan-spec =
@@ -69,8 +69,8 @@ store-plan-spec =
     cast-location
     access-of-requires
     enum-known-found
+    enum-known-found-2
     enum-told
-    enum-told-2
     register-at-requires-2
     returns
     returns-2

@@ -29,11 +29,11 @@ access-of-requires c κs = search needs
 enum-known-found : tie.Need-enum-known-found
 enum-known-found c = search needs
 
+enum-known-found-2 : tie.Need-enum-known-found-2
+enum-known-found-2 c = search needs
+
 enum-told : tie.Need-enum-told
 enum-told c = search needs
-
-enum-told-2 : tie.Need-enum-told-2
-enum-told-2 c = search needs
 
 returns : tie.Need-returns
 returns c =
@@ -47,13 +47,13 @@ returns c =
 
 returns-2 : tie.Need-returns-2
 returns-2 c =
-    let a = c .before .before .before .before .before .args in
-    let at = c .before .before .before .before .register-at in
-    let mode = c .before .before .before .mode-at in
+    let a = c .before .before .before .before .before .before .args in
+    let at = c .before .before .before .before .before .register-at in
+    let mode = c .before .before .before .before .mode-at in
     λ l run m e.
     let it = looking (now (a .order)) (now (a .modes)) run in
-    wait-held it (a .task) (a .place) (c .before .before .before .before .before .pre) (a .at) (at .result) (mode .result) (at .ensures ∙ ap (λ rs. getD rs (a .at) 0) (sym e)) (mode .ensures)
-    (subst (AccessAs it (a .task) (a .place) (at .result) (mode .result)) (c .enum-told .given .1) (c .before .before .access-of .ensures run))
+    wait-held it (a .task) (a .place) (c .before .before .before .before .before .before .pre) (a .at) (at .result) (mode .result) (at .ensures ∙ ap (λ rs. getD rs (a .at) 0) (sym e)) (mode .ensures)
+    (c .before .found2 .given .0 .0) (subst (AccessAs it (a .task) (a .place) (at .result) (mode .result)) (c .before .found2 .given .1) (c .before .before .before .access-of .ensures run))
 
 returns-3 : tie.Need-returns-3
 returns-3 c =
@@ -63,7 +63,7 @@ returns-3 c =
     λ l run m e.
     let it = looking (now (a .order)) (now (a .modes)) run in
     wait-free it (a .task) (a .place) (c .before .before .before .before .before .pre) (a .at) (at .result) (mode .result) (at .ensures ∙ ap (λ rs. getD rs (a .at) 0) (sym e)) (mode .ensures)
-    (subst (AccessAs it (a .task) (a .place) (at .result) (mode .result)) (c .enum-told2 .given .1) (c .before .before .access-of .ensures run))
+    (subst (AccessAs it (a .task) (a .place) (at .result) (mode .result)) (c .enum-told .given .1) (c .before .before .access-of .ensures run))
 
 pub wait-plan-spec : {M : Type 1} → statement M
 wait-plan-spec =
@@ -74,8 +74,8 @@ wait-plan-spec =
     mode-at-requires
     access-of-requires
     enum-known-found
+    enum-known-found-2
     enum-told
-    enum-told-2
     returns
     returns-2
     returns-3)

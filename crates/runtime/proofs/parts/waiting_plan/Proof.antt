@@ -2,7 +2,7 @@
 -- Assumes nothing.
 use mathlib.Core.Path.{sym, subst}
 use denote.Ref.{now}
-use Rattle.runtime.specs.declared.StepPlan.the-variants.{Held}
+use Rattle.runtime.specs.declared.StepPlan.the-variants.{Pass}
 use Rattle.runtime.specs.Steps.{looking, WaitAs}
 use borrow.Author.Needs.{needs}
 use Rattle.runtime.proofs.parts.waiting_plan.Statement.{statement}
@@ -74,37 +74,37 @@ returns-4 : tie.Need-returns-4
 returns-4 c =
     let a = c .before .before .args in
     λ run m e.
-    subst (λ i. WaitAs (looking (now (a .order)) (now (a .modes)) run) (a .task) (a .place) i Held) (sym (c .enum-told .given .1)) tt
+    subst (λ i. WaitAs (looking (now (a .order)) (now (a .modes)) run) (a .task) (a .place) i (Pass 0)) (sym (c .enum-told .given .1)) tt
 
 returns-5 : tie.Need-returns-5
 returns-5 c =
     let a = c .before .before .args in
     λ run m e.
-    subst (λ i. WaitAs (looking (now (a .order)) (now (a .modes)) run) (a .task) (a .place) i Held) (sym (c .enum-told2 .given .1)) tt
+    subst (λ i. WaitAs (looking (now (a .order)) (now (a .modes)) run) (a .task) (a .place) i (Pass 0)) (sym (c .enum-told2 .given .1)) tt
 
 returns-6 : tie.Need-returns-6
 returns-6 c =
     let a = c .before .before .args in
     λ run m e.
-    subst (λ i. WaitAs (looking (now (a .order)) (now (a .modes)) run) (a .task) (a .place) i Held) (sym (c .enum-told3 .given .1)) tt
+    subst (λ i. WaitAs (looking (now (a .order)) (now (a .modes)) run) (a .task) (a .place) i (Pass 0)) (sym (c .enum-told3 .given .1)) tt
 
 returns-7 : tie.Need-returns-7
 returns-7 c =
     let a = c .before .before .args in
     λ run m e.
-    subst (λ i. WaitAs (looking (now (a .order)) (now (a .modes)) run) (a .task) (a .place) i Held) (sym (c .enum-told4 .given .1)) tt
+    subst (λ i. WaitAs (looking (now (a .order)) (now (a .modes)) run) (a .task) (a .place) i (Pass 0)) (sym (c .enum-told4 .given .1)) tt
 
 returns-8 : tie.Need-returns-8
 returns-8 c =
     let a = c .before .before .args in
     λ run m e.
-    subst (λ i. WaitAs (looking (now (a .order)) (now (a .modes)) run) (a .task) (a .place) i Held) (sym (c .enum-told5 .given .1)) tt
+    subst (λ i. WaitAs (looking (now (a .order)) (now (a .modes)) run) (a .task) (a .place) i (Pass 0)) (sym (c .enum-told5 .given .1)) tt
 
 returns-9 : tie.Need-returns-9
 returns-9 c =
     let a = c .before .before .args in
     λ run m e.
-    subst (λ i. WaitAs (looking (now (a .order)) (now (a .modes)) run) (a .task) (a .place) i Held) (sym (c .enum-told6 .given .1)) tt
+    subst (λ i. WaitAs (looking (now (a .order)) (now (a .modes)) run) (a .task) (a .place) i (Pass 0)) (sym (c .enum-told6 .given .1)) tt
 
 pub waiting-plan-spec : {M : Type 1} → statement M
 waiting-plan-spec =

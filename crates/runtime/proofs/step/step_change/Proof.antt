@@ -140,14 +140,14 @@ mul-weight c = search needs
 array-read-weight : tie.Need-array-read-weight
 array-read-weight c = search needs
 
-enum-told : tie.Need-enum-told
-enum-told c = search needs
+enum-known-plan : tie.Need-enum-known-plan
+enum-known-plan c = search needs
 
 unchanged-requires-2 : tie.Need-unchanged-requires-2
 unchanged-requires-2 c κs = search needs
 
-enum-known-plan : tie.Need-enum-known-plan
-enum-known-plan c = search needs
+enum-known-plan-2 : tie.Need-enum-known-plan-2
+enum-known-plan-2 c = search needs
 
 failed-requires : tie.Need-failed-requires
 failed-requires c κs = search needs
@@ -155,8 +155,8 @@ failed-requires c κs = search needs
 changed-requires : tie.Need-changed-requires
 changed-requires c κs = search needs
 
-enum-known-plan-2 : tie.Need-enum-known-plan-2
-enum-known-plan-2 c = search needs
+enum-known-plan-3 : tie.Need-enum-known-plan-3
+enum-known-plan-3 c = search needs
 
 passed-requires : tie.Need-passed-requires
 passed-requires c κs = search needs
@@ -167,8 +167,8 @@ holding-requires c κs = search needs
 changed-requires-2 : tie.Need-changed-requires-2
 changed-requires-2 c κs = search needs
 
-enum-known-plan-3 : tie.Need-enum-known-plan-3
-enum-known-plan-3 c = search needs
+enum-known-plan-4 : tie.Need-enum-known-plan-4
+enum-known-plan-4 c = search needs
 
 passed-requires-2 : tie.Need-passed-requires-2
 passed-requires-2 c κs = search needs
@@ -176,8 +176,8 @@ passed-requires-2 c κs = search needs
 changed-requires-3 : tie.Need-changed-requires-3
 changed-requires-3 c κs = search needs
 
-enum-known-plan-4 : tie.Need-enum-known-plan-4
-enum-known-plan-4 c = search needs
+enum-known-plan-5 : tie.Need-enum-known-plan-5
+enum-known-plan-5 c = search needs
 
 passed-requires-3 : tie.Need-passed-requires-3
 passed-requires-3 c κs = search needs
@@ -188,8 +188,8 @@ store-requires c κs = search needs
 changed-requires-4 : tie.Need-changed-requires-4
 changed-requires-4 c κs = search needs
 
-enum-known-plan-5 : tie.Need-enum-known-plan-5
-enum-known-plan-5 c = search needs
+enum-known-plan-6 : tie.Need-enum-known-plan-6
+enum-known-plan-6 c = search needs
 
 spawned-requires : tie.Need-spawned-requires
 spawned-requires c κs = ready (c .before .before .before .before .before .before .before .before .before .before .before .before .before .before) .0
@@ -207,10 +207,10 @@ returns c =
 returns-2 : tie.Need-returns-2
 unfolding weight-of fixed-weights
 returns-2 c =
-    let p = c .before .before .before in
+    let p = c .before .before .before .before in
     let a = start-of (found-of p) .args in
     change-held (a .t1) (a .memory .now) (a .modes .now) (a .order .now) (a .left) (a .own) (a .task) (place-at (found-of p)) (weight-at p) (p .plan-of .result) (there p)
-    (c .before .enum-told .given .1) (c .unchanged2 .result) (c .unchanged2 .ensures)
+    (c .before .before .plan .given .0 .0) (c .before .before .plan .given .1) (c .unchanged2 .result) (c .unchanged2 .ensures)
 
 returns-3 : tie.Need-returns-3
 unfolding weight-of fixed-weights
@@ -218,7 +218,7 @@ returns-3 c =
     let p = c .before .before .before .before .before in
     let a = start-of (found-of p) .args in
     change-fault (a .t1) (a .memory .now) (a .modes .now) (a .order .now) (a .left) (a .own) (a .task) (place-at (found-of p)) (weight-at p) (p .plan-of .result) (there p)
-    (c .before .before .before .plan .given .0 .0) (c .before .before .before .plan .given .1) (c .before .failed .result) (c .before .failed .ensures) (c .changed .result) (c .changed .ensures)
+    (c .before .before .before .plan2 .given .0 .0) (c .before .before .before .plan2 .given .1) (c .before .failed .result) (c .before .failed .ensures) (c .changed .result) (c .changed .ensures)
 
 returns-4 : tie.Need-returns-4
 unfolding weight-of fixed-weights
@@ -226,7 +226,7 @@ returns-4 c =
     let p = c .before .before .before .before .before .before in
     let a = start-of (found-of p) .args in
     change-assign (a .t1) (a .memory .now) (a .modes .now) (a .order .now) (a .left) (a .own) (a .task) (place-at (found-of p)) (weight-at p) (p .plan-of .result) (there p)
-    (c .before .before .before .before .plan2 .given .0 .0) (c .before .before .before .before .plan2 .given .0 .1 .0) (c .before .before .before .before .plan2 .given .1) (c .before .before .passed .result) (c .before .holding .result) (c .before .before .passed .ensures .0) (c .before .holding .ensures)
+    (c .before .before .before .before .plan3 .given .0 .0) (c .before .before .before .before .plan3 .given .0 .1 .0) (c .before .before .before .before .plan3 .given .1) (c .before .before .passed .result) (c .before .holding .result) (c .before .before .passed .ensures .0) (c .before .holding .ensures)
     (c .changed2 .result) (c .changed2 .ensures)
 
 returns-5 : tie.Need-returns-5
@@ -235,7 +235,7 @@ returns-5 c =
     let p = c .before .before .before .before .before in
     let a = start-of (found-of p) .args in
     change-pass (a .t1) (a .memory .now) (a .modes .now) (a .order .now) (a .left) (a .own) (a .task) (place-at (found-of p)) (weight-at p) (p .plan-of .result) (there p)
-    (c .before .before .before .plan3 .given .0 .0) (c .before .passed2 .ensures .1) (c .before .before .before .plan3 .given .1) (c .before .passed2 .result) (c .before .passed2 .ensures .0) (c .changed3 .result) (c .changed3 .ensures)
+    (c .before .before .before .plan4 .given .0 .0) (c .before .passed2 .ensures .1) (c .before .before .before .plan4 .given .1) (c .before .passed2 .result) (c .before .passed2 .ensures .0) (c .changed3 .result) (c .changed3 .ensures)
 
 returns-6 : tie.Need-returns-6
 unfolding weight-of fixed-weights
@@ -243,7 +243,7 @@ returns-6 c =
     let p = c .before .before .before .before .before .before .before in
     let a = start-of (found-of p) .args in
     change-store (a .t1) (a .memory .now) (a .modes .now) (a .order .now) (a .left) (a .own) (a .task) (place-at (found-of p)) (weight-at p) (p .plan-of .result) (there p)
-    (c .before .before .before .before .before .plan4 .given .0 .0) (c .before .before .before .before .before .plan4 .given .0 .1 .0) (c .before .before .before .before .before .plan4 .given .1) (c .before .before .before .passed3 .result) (c .before .before .before .passed3 .ensures .0) (c .before .store .last .0) (c .before .store .ensures)
+    (c .before .before .before .before .before .plan5 .given .0 .0) (c .before .before .before .before .before .plan5 .given .0 .1 .0) (c .before .before .before .before .before .plan5 .given .1) (c .before .before .before .passed3 .result) (c .before .before .before .passed3 .ensures .0) (c .before .store .last .0) (c .before .store .ensures)
     (c .changed4 .result) (c .changed4 .ensures)
 
 returns-7 : tie.Need-returns-7
@@ -252,7 +252,7 @@ returns-7 c =
     let p = c .before .before .before .before .before .before in
     let a = start-of (found-of p) .args in
     change-spawn (a .t1) (a .memory .now) (a .modes .now) (a .order .now) (a .left) (a .own) (a .task) (place-at (found-of p)) (weight-at p) (p .plan-of .result) (there p)
-    (c .before .before .before .before .plan5 .given .0 .0) (c .before .before .before .before .plan5 .given .0 .1 .0) (c .before .before .before .before .plan5 .given .1) (c .spawned .last .1 .0) (c .spawned .last .1 .1 .0) (c .spawned .result) (c .spawned .ensures)
+    (c .before .before .before .before .plan6 .given .0 .0) (c .before .before .before .before .plan6 .given .0 .1 .0) (c .before .before .before .before .plan6 .given .1) (c .spawned .last .1 .0) (c .spawned .last .1 .1 .0) (c .spawned .result) (c .spawned .ensures)
 
 pub step-change-spec : {M : Type 1} → statement M
 step-change-spec =
@@ -274,23 +274,23 @@ step-change-spec =
     add-weight
     mul-weight
     array-read-weight
-    enum-told
-    unchanged-requires-2
     enum-known-plan
+    unchanged-requires-2
+    enum-known-plan-2
     failed-requires
     changed-requires
-    enum-known-plan-2
+    enum-known-plan-3
     passed-requires
     holding-requires
     changed-requires-2
-    enum-known-plan-3
+    enum-known-plan-4
     passed-requires-2
     changed-requires-3
-    enum-known-plan-4
+    enum-known-plan-5
     passed-requires-3
     store-requires
     changed-requires-4
-    enum-known-plan-5
+    enum-known-plan-6
     spawned-requires
     returns
     returns-2

@@ -1,16 +1,27 @@
--- From a row of zeros.
+-- In the first place of two rows of zeros.
 -- Assumes nothing.
-use Rattle.semantics.specs.Run.{no-modes}
+use native.Mathlib.Omega.{arith}
+use Rattle.tables.specs.Ahead.{accesses, accesses-of}
 use borrow.Author.Needs.{needs}
 use Rattle.tables.proofs.search.wanted_at.Statement.{statement}
 use Rattle.tables.proofs.search.wanted_at.Tie as tie
 
-with-mode-requires : tie.Need-with-mode-requires
-with-mode-requires c κs = search needs
+cast-locations : tie.Need-cast-locations
+cast-locations c = search needs
+
+array-write-locations : tie.Need-array-write-locations
+array-write-locations c = search needs
+
+array-write-asked : tie.Need-array-write-asked
+array-write-asked c = search needs
 
 returns : tie.Need-returns
-unfolding no-modes
-returns c = c .with-mode .ensures
+unfolding accesses accesses-of
+returns c = search needs
+
+returns-2 : tie.Need-returns-2
+returns-2 c = λ h. let z : ⊥ = omega arith in absurd z
 
 pub wanted-at-spec : {M : Type 1} → statement M
-wanted-at-spec = tie.close (tie.spec with-mode-requires returns)
+wanted-at-spec =
+    tie.close (tie.spec cast-locations array-write-locations array-write-asked returns returns-2)

@@ -42,17 +42,17 @@ pub fn wanted_of(modes: &[u8; 8192], task: usize) -> Wanted
     let mut locations = [0u8; 64];
     let mut asked = [0u8; 64];
     let mut count = 0;
-    let mut i = 0;
-    while i < 64 {
-        let mode = mode_at(modes, task, i);
+    let mut location = 0;
+    while location < 64 {
+        let mode = mode_at(modes, task, location);
         if mode == 0 {
-            i += 1;
+            location += 1;
             continue;
         }
-        locations[count] = i as u8;
+        locations[count] = location as u8;
         asked[count] = mode;
         count += 1;
-        i += 1;
+        location += 1;
     }
     Wanted {
         count,

@@ -1,5 +1,6 @@
 -- In the first place of two rows of zeros.
 -- Assumes nothing.
+use mathlib.Core.Path.{refl}
 use native.Mathlib.Omega.{arith}
 use Rattle.tables.specs.Ahead.{accesses, accesses-of}
 use borrow.Author.Needs.{needs}
@@ -17,7 +18,7 @@ array-write-asked c = search needs
 
 returns : tie.Need-returns
 unfolding accesses accesses-of
-returns c = search needs
+returns c = λ h. refl
 
 returns-2 : tie.Need-returns-2
 returns-2 c = λ h. let z : ⊥ = omega arith in absurd z

@@ -13,12 +13,12 @@ use Rattle.tables.proofs.search.wanted_of.Statement.{statement}
 use Rattle.tables.proofs.search.wanted_of.Tie as tie
 
 abbrev Inv-loop : tie.InvT-loop
-Inv-loop modes task locations₀ asked₀ count₀ i₀ locations asked count i =
-    (count ≤ i) × (i ≤ 64) × (length locations ≡ 64) × (length asked ≡ 64)
-    × (length modes ≡ 8192 → task < 128 → Collected (row task modes) locations asked count i)
+Inv-loop modes task locations₀ asked₀ count₀ location₀ locations asked count location =
+    (count ≤ location) × (location ≤ 64) × (length locations ≡ 64) × (length asked ≡ 64)
+    × (length modes ≡ 8192 → task < 128 → Collected (row task modes) locations asked count location)
 
 abbrev μ-loop : tie.MeasureT-loop
-μ-loop modes task locations₀ asked₀ count₀ i₀ locations asked count i = 64 - i
+μ-loop modes task locations₀ asked₀ count₀ location₀ locations asked count location = 64 - location
 
 loop-holds : tie.Need-loop-holds Inv-loop μ-loop
 loop-holds c =
@@ -28,8 +28,8 @@ loop-holds c =
 mode-at-requires : tie.Need-mode-at-requires Inv-loop μ-loop
 mode-at-requires c κs = search needs
 
-add-i : tie.Need-add-i Inv-loop μ-loop
-add-i c = search needs
+add-location : tie.Need-add-location Inv-loop μ-loop
+add-location c = search needs
 
 loop-less : tie.Need-loop-less Inv-loop μ-loop
 loop-less c = search needs
@@ -43,7 +43,7 @@ loop-again c =
       search needs,
       search needs,
       λ len below.
-          collect-skip (row (a .task) (a .modes .now)) (at .locations) (at .asked) (at .count) (at .i) (c .before .mode-at .result)
+          collect-skip (row (a .task) (a .modes .now)) (at .locations) (at .asked) (at .count) (at .location) (c .before .mode-at .result)
           (omega (arith, row-length (a .task) (a .modes .now) len below)) (c .before .mode-at .ensures len) (at .inv .4 len below) (c .if1 .taken),
     )
 
@@ -59,8 +59,8 @@ array-write-asked c = search needs
 add-count : tie.Need-add-count Inv-loop μ-loop
 add-count c = search needs
 
-add-i-2 : tie.Need-add-i-2 Inv-loop μ-loop
-add-i-2 c = search needs
+add-location-2 : tie.Need-add-location-2 Inv-loop μ-loop
+add-location-2 c = search needs
 
 loop-less-2 : tie.Need-loop-less-2 Inv-loop μ-loop
 loop-less-2 c = search needs
@@ -74,7 +74,7 @@ loop-again-2 c =
       search needs,
       search needs,
       λ len below.
-          collect-next (row (a .task) (a .modes .now)) (at .locations) (at .asked) (at .count) (at .i) (c .before .mode-at .result)
+          collect-next (row (a .task) (a .modes .now)) (at .locations) (at .asked) (at .count) (at .location) (c .before .mode-at .result)
           (omega (arith, row-length (a .task) (a .modes .now) len below)) (c .before .mode-at .ensures len) (at .inv .4 len below) (c .if1 .left)
           (at .inv .2) (at .inv .3) (omega arith),
     )
@@ -85,7 +85,7 @@ returns c =
     λ len below.
     let a = c .before .before .args in
     let at = c .before .loop in
-    collect-all (row (a .task) (a .modes .now)) (at .locations) (at .asked) (at .count) (at .i)
+    collect-all (row (a .task) (a .modes .now)) (at .locations) (at .asked) (at .count) (at .location)
     (omega (arith, row-length (a .task) (a .modes .now) len below)) (at .inv .4 len below)
 
 pub wanted-of-spec : {M : Type 1} → statement M
@@ -96,14 +96,14 @@ wanted-of-spec =
     μ-loop
     loop-holds
     mode-at-requires
-    add-i
+    add-location
     loop-less
     loop-again
     cast-locations
     array-write-locations
     array-write-asked
     add-count
-    add-i-2
+    add-location-2
     loop-less-2
     loop-again-2
     returns)

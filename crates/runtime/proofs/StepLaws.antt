@@ -67,6 +67,13 @@ unfolding passed-over
 over-none zero b h = absurd (h refl)
 over-none (suc a) b h = refl
 
+-- what comes of an access that has no fault, by what the tasks ahead do to it
+abbrev pub AccessBy : Run → ℕ → ℕ → ℕ → ℕ → Hold → Type 0
+AccessBy run n place a asked h =
+    SoundRun run → Placed run n place
+    → (fault-at run n a asked ≡ 0)
+    × (asked ≢ 0 → (e : Effect) → admit (model run) n (access a asked ∷ []) e ≡ outcome-by h e)
+
 -- What comes of an access.
 module _
     (run : Run) (n place a asked mode fault : ℕ) (look : length (run .modes) ≡ 8192 → mode ≡ getD (row n (run .modes)) a 0)
@@ -79,14 +86,11 @@ module _
     pub access-faults : fault ≢ 0 → AccessAs run n place a asked (Found.Fault fault)
     access-faults h = (h, known)
 
-    -- by the search
     pub access-looked :
         fault ≡ 0 → (w : Wanted) → (a < 64 → accesses-of w ≡ access a asked ∷ []) → (h : Hold)
         → (length (run .order) ≡ 128 → length (run .modes) ≡ 8192
         → h ≡ hold-ahead (run .modes) (take place (run .order)) (accesses-of w))
-        → (x : Hold) → h ≡ x → SoundRun run → Placed run n place
-        → (fault-at run n a asked ≡ 0)
-        × (asked ≢ 0 → (e : Effect) → admit (model run) n (access a asked ∷ []) e ≡ outcome-by x e)
+        → (x : Hold) → h ≡ x → AccessBy run n place a asked x
     access-looked none w one h searched x is s p = (
       granted,
       λ z e.

@@ -1,13 +1,30 @@
 -- A fault, else by the search.
 -- Assumes nothing.
+use mathlib.Core.Path.{_≡_}
 use denote.Ref.{now}
 use Rattle.semantics.specs.Answers.{refusal-number}
+use Rattle.tables.specs.declared.Hold.{Hold}
 use Rattle.tables.specs.declared.Hold.the-variants.{Free, Writer, Others}
+use Rattle.runtime.specs.declared.Run.{Run}
 use Rattle.runtime.specs.Steps.{looking}
-use Rattle.runtime.proofs.StepLaws.{access-faults, access-looked}
+use Rattle.runtime.proofs.StepLaws.{AccessBy, access-faults, access-looked}
 use borrow.Author.Needs.{needs}
 use Rattle.runtime.proofs.parts.access_of.Statement.{statement}
 use Rattle.runtime.proofs.parts.access_of.Tie as tie
+
+-- by the search
+looked :
+    (c : tie.After-search-ahead) (x : Hold) → c .search-ahead .result ≡ x → (run : Run)
+    → let a = c .before .before .before .before .before .args in
+    AccessBy (looking (now (a .order)) (now (a .modes)) run) (a .task) (a .place) (a .location) (a .asked) x
+looked c x is run =
+    let own = c .before .before .before .before .mode-at in
+    let fault = c .before .before .before .access-fault in
+    let wanted = c .before .wanted-at in
+    let hold = c .search-ahead in
+    let a = c .before .before .before .before .before .args in
+    access-looked (looking (now (a .order)) (now (a .modes)) run) (a .task) (a .place) (a .location) (a .asked) (own .result) (fault .result) (own .ensures) (fault .ensures)
+    (c .before .before .if1 .left) (wanted .result) (wanted .ensures) (hold .result) (hold .ensures) x is
 
 mode-at-requires : tie.Need-mode-at-requires
 mode-at-requires c κs = search needs
@@ -38,39 +55,15 @@ enum-told-3 : tie.Need-enum-told-3
 enum-told-3 c = search needs
 
 returns-2 : tie.Need-returns-2
-returns-2 c =
-    let own = c .before .before .before .before .before .before .mode-at in
-    let fault = c .before .before .before .before .before .access-fault in
-    let wanted = c .before .before .before .wanted-at in
-    let hold = c .before .before .search-ahead in
-    let a = c .before .before .before .before .before .before .before .args in
-    λ run.
-    access-looked (looking (now (a .order)) (now (a .modes)) run) (a .task) (a .place) (a .location) (a .asked) (own .result) (fault .result) (own .ensures) (fault .ensures)
-    (c .before .before .before .before .if1 .left) (wanted .result) (wanted .ensures) (hold .result) (hold .ensures) Free (c .enum-told .given .1)
+returns-2 c = looked (c .before .before) Free (c .enum-told .given .1)
 
 returns-3 : tie.Need-returns-3
 unfolding refusal-number
-returns-3 c =
-    let own = c .before .before .before .before .before .before .mode-at in
-    let fault = c .before .before .before .before .before .access-fault in
-    let wanted = c .before .before .before .wanted-at in
-    let hold = c .before .before .search-ahead in
-    let a = c .before .before .before .before .before .before .before .args in
-    λ run.
-    access-looked (looking (now (a .order)) (now (a .modes)) run) (a .task) (a .place) (a .location) (a .asked) (own .result) (fault .result) (own .ensures) (fault .ensures)
-    (c .before .before .before .before .if1 .left) (wanted .result) (wanted .ensures) (hold .result) (hold .ensures) Writer (c .enum-told2 .given .1)
+returns-3 c = looked (c .before .before) Writer (c .enum-told2 .given .1)
 
 returns-4 : tie.Need-returns-4
 unfolding refusal-number
-returns-4 c =
-    let own = c .before .before .before .before .before .before .mode-at in
-    let fault = c .before .before .before .before .before .access-fault in
-    let wanted = c .before .before .before .wanted-at in
-    let hold = c .before .before .search-ahead in
-    let a = c .before .before .before .before .before .before .before .args in
-    λ run.
-    access-looked (looking (now (a .order)) (now (a .modes)) run) (a .task) (a .place) (a .location) (a .asked) (own .result) (fault .result) (own .ensures) (fault .ensures)
-    (c .before .before .before .before .if1 .left) (wanted .result) (wanted .ensures) (hold .result) (hold .ensures) Others (c .enum-told3 .given .1)
+returns-4 c = looked (c .before .before) Others (c .enum-told3 .given .1)
 
 pub access-of-spec : {M : Type 1} → statement M
 access-of-spec =

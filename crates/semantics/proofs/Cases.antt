@@ -14,14 +14,15 @@ use Rattle.tasklist.specs.Decode
 use Rattle.tasklist.specs.Encode.{instruction-fields}
 use Rattle.tasklist.proofs.Cases.{P}
 use Rattle.semantics.specs.Run.{no-modes, never, fixed-weights, weight-of, root-modes, root, initial}
-use Rattle.semantics.specs.Access.{every, any, only, ahead, queue, behind-writer, compatible, allowed, access-fault}
+use Rattle.semantics.specs.Access.{reads, writes, every, any, only, ahead, queue, behind-writer, compatible, allowed, access-fault}
 use Rattle.semantics.specs.Footprint.{targets, all-targets, twice, first-fault, unless-denied, grant, child-modes}
 use Rattle.semantics.specs.Plan.{unless-fault, plan-load, plan-store, plan-wait, passed-over, child-number, plan-spawn, plan-instruction, step-weight, at-end, needs-from, plan-start, plan-step, plan-end, plan}
 use Rattle.semantics.specs.Call.{Call, hold, admit, settle, among, decide, edited, written, splice, stays, places, changes, apply, taken, call, after, after-all}
+use Rattle.semantics.specs.Search.{search-from, search, hold-number}
 use Rattle.semantics.specs.Sequential.{start-of, step-of, end-of, run-each, step-through, steps-through, enough, run-whole, sequential}
 use Rattle.semantics.specs.Operations.{queue-places}
 use Rattle.semantics.specs.Answers.{outcome-number}
-use Rattle.semantics.specs.Case.{Case, by-hand, by-calls, tasks-in, refused-with, memory-is, order-is, queue-is, fault-is, calls-are, weight-is, same, is-so, answers, has-tasks, is-refused, holds}
+use Rattle.semantics.specs.Case.{Case, by-hand, by-calls, tasks-in, refused-with, memory-is, order-is, queue-is, fault-is, search-is, calls-are, weight-is, same, is-so, answers, has-tasks, is-refused, holds}
 
 -- two locations; footprints: read 0; 0 named twice
 abbrev small : List (List Instruction) → TaskList
@@ -108,6 +109,11 @@ cases =
     -- "After start 0, step 0, step 0: order 1, 2, 0; queue of entry 0 is 513, 258, 512; of entry 1 it is 514, 512."
     by-calls P (5 ∷ 7 ∷ []) opening (0 ∷ 0 ∷ 0 ∷ [])
     (order-is (1 ∷ 2 ∷ 0 ∷ []) ∷ queue-is 0 (513 ∷ 258 ∷ 512 ∷ []) ∷ queue-is 1 (514 ∷ 512 ∷ []) ∷ []) ∷
+    -- request 103: there job 1 writes entry 0, job 2 reads it and writes entry 1; each search stops "at the first job of mode
+    -- write .. or at the job itself"
+    by-calls P (5 ∷ 7 ∷ []) opening (0 ∷ 0 ∷ 0 ∷ [])
+    (search-is 1 (writes 0 ∷ []) 0 1 ∷ search-is 2 (reads 0 ∷ writes 1 ∷ []) 19 1 ∷ search-is 2 (writes 1 ∷ []) 0 2 ∷
+    search-is 0 (writes 0 ∷ []) 19 1 ∷ search-is 0 (writes 1 ∷ []) 19 2 ∷ search-is 0 [] 0 3 ∷ []) ∷
     -- "Then start 2 gives 12, start 1 is accepted, end 0 is accepted." With request 102: "start 2 now gives 19"
     by-calls P (5 ∷ 7 ∷ []) (opening ++ (start-of 2 ∷ start-of 1 ∷ end-of 0 ∷ [])) (0 ∷ 0 ∷ 0 ∷ 19 ∷ 0 ∷ 0 ∷ [])
     (order-is (1 ∷ 2 ∷ []) ∷ calls-are 5 ∷ weight-is 28 ∷ []) ∷
@@ -115,7 +121,7 @@ cases =
     -- behind two readers 20"
     by-calls readers (5 ∷ 7 ∷ []) (opening ++ (start-of 2 ∷ start-of 1 ∷ step-of 0 ∷ step-of 0 ∷ []))
     (0 ∷ 0 ∷ 0 ∷ 0 ∷ 0 ∷ 0 ∷ 20 ∷ [])
-    (memory-is (5 ∷ 7 ∷ []) ∷ []) ∷
+    (memory-is (5 ∷ 7 ∷ []) ∷ search-is 2 (reads 0 ∷ []) 0 2 ∷ search-is 0 (reads 0 ∷ []) 0 3 ∷ search-is 0 (writes 0 ∷ []) 20 3 ∷ []) ∷
     -- "Store to a read entry: fault 2, entry unchanged."
     by-hand store-to-read (5 ∷ 7 ∷ []) (fault-is 1 2 ∷ memory-is (5 ∷ 7 ∷ []) ∷ []) ∷
     -- "Load of entry 2 where C = 2: fault 1."
@@ -138,9 +144,9 @@ cases =
     by-hand empty-list (5 ∷ []) (memory-is (5 ∷ []) ∷ order-is [] ∷ calls-are 2 ∷ weight-is 7 ∷ []) ∷
     -- request 102: "For a start, all entries of the footprint count; for a step, the one entry concerned."
     by-calls (behind-both (Spawn 1 2)) (5 ∷ 7 ∷ []) (opening ++ (step-of 0 ∷ start-of 3 ∷ [])) (0 ∷ 0 ∷ 0 ∷ 0 ∷ 19 ∷ [])
-    (order-is (1 ∷ 2 ∷ 3 ∷ 0 ∷ []) ∷ calls-are 4 ∷ []) ∷
+    (order-is (1 ∷ 2 ∷ 3 ∷ 0 ∷ []) ∷ calls-are 4 ∷ search-is 3 (writes 0 ∷ writes 1 ∷ []) 19 2 ∷ []) ∷
     by-calls (behind-both (Store 0 1)) (5 ∷ 7 ∷ []) (opening ++ (step-of 0 ∷ [])) (0 ∷ 0 ∷ 0 ∷ 20 ∷ [])
-    (memory-is (5 ∷ 7 ∷ []) ∷ calls-are 3 ∷ []) ∷
+    (memory-is (5 ∷ 7 ∷ []) ∷ calls-are 3 ∷ search-is 0 (writes 0 ∷ []) 20 3 ∷ []) ∷
     -- Besides those marked. "With P and input 00 00 01 00 01 00 00 02 it prints the lines 0, 0, 0, 12, 5, 7, `3 21 3`."
     -- With request 102 the fourth is 19.
     by-calls P (5 ∷ 7 ∷ []) (opening ++ (start-of 2 ∷ [])) (0 ∷ 0 ∷ 0 ∷ 19 ∷ [])
@@ -169,5 +175,5 @@ cases =
     (fault-is 2 2 ∷ order-is (1 ∷ 2 ∷ 0 ∷ []) ∷ []) ∷ []
 
 pub cases-hold : every holds cases ≡ true
-unfolding body-of footprint-of instruction-of total adds count-body count-from counts task-count field is-tag tag in-range number counted many row head-numbers head line-limit line-ok is-line line footprint forms form instruction-ok is-instruction instruction body list-behind sized finish decode Decode.register instruction-fields no-modes never fixed-weights weight-of root-modes root initial every any only ahead queue behind-writer compatible allowed access-fault unless-fault plan-load plan-store plan-wait passed-over targets all-targets twice first-fault unless-denied grant child-modes child-number plan-spawn plan-instruction step-weight at-end needs-from plan-start plan-step plan-end plan hold admit settle among decide edited written splice stays places changes apply taken call after after-all run-each step-through steps-through enough run-whole sequential queue-places outcome-number same is-so answers has-tasks is-refused holds
+unfolding body-of footprint-of instruction-of total adds count-body count-from counts task-count field is-tag tag in-range number counted many row head-numbers head line-limit line-ok is-line line footprint forms form instruction-ok is-instruction instruction body list-behind sized finish decode Decode.register instruction-fields no-modes never fixed-weights weight-of root-modes root initial every any only ahead queue behind-writer compatible allowed access-fault unless-fault plan-load plan-store plan-wait passed-over targets all-targets twice first-fault unless-denied grant child-modes child-number plan-spawn plan-instruction step-weight at-end needs-from plan-start plan-step plan-end plan hold admit search-from search hold-number settle among decide edited written splice stays places changes apply taken call after after-all run-each step-through steps-through enough run-whole sequential queue-places outcome-number same is-so answers has-tasks is-refused holds
 cases-hold = refl

@@ -36,7 +36,7 @@ abbrev Is-accept : Outcome → Type 0
 Is-accept (refuse k) = ⊥
 Is-accept (accept e) = Unit {0}
 
-not-refuse : (k : ℕ) (e : Effect) → refuse k ≡ accept e → ⊥
+pub not-refuse : (k : ℕ) (e : Effect) → refuse k ≡ accept e → ⊥
 not-refuse k e q = subst Is-accept (sym q) tt
 
 same-effect : (d e : Effect) → accept d ≡ accept e → d ≡ e

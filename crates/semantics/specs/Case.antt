@@ -6,8 +6,9 @@ use lib.Dec.{eqb}
 use Rattle.tasklist.specs.TaskList.{TaskList, task-count}
 use Rattle.tasklist.specs.Decode.{Decoded, refused, accepted, decode}
 use Rattle.semantics.specs.Run.{Run, Context, context, task-of, initial}
-use Rattle.semantics.specs.Access.{every}
+use Rattle.semantics.specs.Access.{Access, every}
 use Rattle.semantics.specs.Call.{Call, decide, after, after-all}
+use Rattle.semantics.specs.Search.{search, hold-number}
 use Rattle.semantics.specs.Sequential.{sequential}
 use Rattle.semantics.specs.Operations.{queue-places}
 use Rattle.semantics.specs.Answers.{outcome-number}
@@ -20,6 +21,8 @@ pub data Fact : Type 0 where
   queue-is : ℕ → List ℕ → Fact
   -- a task's fault
   fault-is : ℕ → ℕ → Fact
+  -- the search of a task for these accesses: the number of its hold, 0 for none, and how many tasks it looked at
+  search-is : ℕ → List Access → ℕ → ℕ → Fact
   calls-are : ℕ → Fact
   weight-is : ℕ → Fact
 
@@ -44,6 +47,7 @@ is-so r (memory-is m) = same (r .memory) m
 is-so r (order-is o) = same (r .order) o
 is-so r (queue-is a q) = same (queue-places r a) q
 is-so r (fault-is n k) = eqb (task-of r n .fault) k
+is-so r (search-is n gs k looked) = let f = search r n gs in eqb (hold-number f) k && eqb (f .looked) looked
 is-so r (calls-are k) = eqb (r .calls) k
 is-so r (weight-is w) = eqb (r .weight) w
 

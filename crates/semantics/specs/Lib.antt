@@ -5,6 +5,7 @@ pub mod Effect
 pub mod Footprint
 pub mod Plan
 pub mod Call
+pub mod Search
 pub mod Sequential
 pub mod Operations
 pub mod Answers

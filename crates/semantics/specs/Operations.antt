@@ -1,4 +1,4 @@
--- What else is asked: to open a run, to run a list by hand, one task's record, a location's queue. Document 01, "Calls" and
+-- What else is asked: to open a run, to run a list by hand, one task's record, a location's queue, a search. Document 01, "Calls" and
 -- "Refused, by operation".
 use Prim.Native.Nat.{ℕ, _+_, _*_}
 use mathlib.Core.List.{List, map}
@@ -7,7 +7,9 @@ use lib.ListN.{length}
 use lib.Dec.{leb, ltb, eqb}
 use Rattle.tasklist.specs.Decode.{Decoded, refused, accepted, decode}
 use Rattle.semantics.specs.Run.{Task, Run, Context, context, mode-of, task-of, initial}
-use Rattle.semantics.specs.Access.{queue}
+use Rattle.semantics.specs.Access.{Access, queue}
+use Rattle.semantics.specs.Call.{among}
+use Rattle.semantics.specs.Search.{Found, search}
 use Rattle.semantics.specs.Sequential.{sequential}
 
 -- A refusal's number, or what was asked for.
@@ -41,3 +43,7 @@ unfoldable pub queue-asked : Context → Run → ℕ → ℕ → Asked (List ℕ
 queue-asked c r a room =
     let places = queue-places r a in
     cond (ltb a (c .list .locations)) (cond (leb (length places) room) (gives places) (denies 17)) (denies 16)
+
+-- Request 103: what the search of task n for these accesses finds; 9 and 10 as for the calls
+unfoldable pub search-asked : Run → ℕ → List Access → Asked Found
+search-asked r n gs = cond (ltb n 128) (cond (among n (r .order)) (gives (search r n gs)) (denies 10)) (denies 9)

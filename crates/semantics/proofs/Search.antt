@@ -249,7 +249,14 @@ module _ (r : Run) (n : ℕ) (gs : List Access) where
       here : (f : Found) → eqb k n ≡ not (f .writer) → (f .writer ≡ true → writes-one r gs k ≡ true) → f .looked ≡ 1 → Stopped r n gs (k ∷ ks) f
       here f q w c =
           record {
-            before = []; at = k; rest = ks; whole = refl; none-before = λ j i. absurd i; itself = q; writes = w; counted = c
+            before = [];
+            at = k;
+            rest = ks;
+            whole = refl;
+            none-before = λ j i. absurd i;
+            itself = q;
+            writes = w;
+            counted = c;
           }
 
       sort :
@@ -271,7 +278,7 @@ module _ (r : Run) (n : ℕ) (gs : List Access) where
             none-before = first s;
             itself = s .itself;
             writes = s .writes;
-            counted = ap suc (s .counted)
+            counted = ap suc (s .counted);
           }
         where
           first :

@@ -3,15 +3,16 @@
 use Prim.Native.Nat.{ℕ, zero, suc, _+_, _≤_, _<_}
 use mathlib.Core.Path.{_≡_, refl, sym, ap, subst, _∙_}
 use mathlib.Core.List.{List, [], _∷_, _++_, append-nil}
-use mathlib.Core.Bool.{Bool, true, false, not, _&&_}
+use mathlib.Core.Bool.{Bool, true, false, false≢true, not, _&&_}
 use mathlib.Core.Logic.{_≢_, inl, inr}
 use native.Mathlib.Omega.{arith}
+use native.Mathlib.Nat.{zero-add}
 use native.Mathlib.Numerals.{add-one}
 use lib.ListN.{length, take, drop, getD, set, length-take, drop-of-length-le}
 use lib.Seq.{drop-cons, getD-take, take-suc-set, append-snoc}
 use lib.Dec.{leb, eqb}
 use borrow.Author.Tests.{lt-leb, eq-eqb, ne-eqb}
-use Rattle.semantics.specs.Run.{Run, task-of}
+use Rattle.semantics.specs.Run.{Run, mode-of, task-of}
 use Rattle.semantics.specs.Access.{Access, every, any, ahead, compatible}
 use Rattle.semantics.specs.Effect.{Effect}
 use Rattle.semantics.specs.Plan.{needs-from}
@@ -19,12 +20,13 @@ use Rattle.semantics.specs.Call.{Outcome, refuse, accept, admit}
 use Rattle.semantics.specs.Sound.{In}
 use Rattle.semantics.proofs.Order.{in-ahead}
 use Rattle.semantics.proofs.Search.{any-same, Asks, admit-free, admit-writer, admit-others}
-use Rattle.semantics.proofs.Search as Model
+use Rattle.semantics.specs.Search as Model
 use Rattle.tables.specs.declared.Hold.{Hold}
 use Rattle.tables.specs.declared.Hold.the-variants.{Free, Writer, Others}
+use Rattle.tables.specs.declared.Searched.{Searched}
 use Rattle.tables.specs.declared.Wanted.{Wanted}
 use Rattle.tables.specs.Rows.{row}
-use Rattle.tables.specs.Ahead.{access, accesses, accesses-of, writes-one, passes-all, held-by, hold-ahead}
+use Rattle.tables.specs.Ahead.{access, accesses, accesses-of, writes-one, passes-all, held-by, hold-ahead, first-place, searched-ahead, found-by, found-of}
 
 -- the table of the model, row by row
 pub none-ahead : (a : ℕ) → leb a 2 ≡ compatible 0 a
@@ -55,15 +57,19 @@ other-ahead (suc zero) a p q r = absurd (q refl)
 other-ahead (suc (suc zero)) a p q r = absurd (r refl)
 other-ahead (suc (suc (suc m))) a p q r = refl
 
+abbrev pub searched : Hold → ℕ → Searched
+searched hold looked = record { hold = hold; looked = looked }
+
 -- A search from the front over xs, of which i have been looked at: none of them is a writer, and `others` says whether one
 -- of them did not pass.
 module _ {A : Type 0} (writes passes : A → Bool) (xs : List A) where
   pub record Scanned (others : Bool) (i : ℕ) : Type 0 where
     pub writer : any writes xs ≡ any writes (drop i xs)
     pub passed : every passes xs ≡ (not others && every passes (drop i xs))
+    pub place : first-place writes xs ≡ i + first-place writes (drop i xs)
 
   pub scan-none : Scanned false 0
-  scan-none = record { writer = refl; passed = refl }
+  scan-none = record { writer = refl; passed = refl; place = sym (zero-add (first-place writes xs)) }
 
   module _ (others : Bool) (i : ℕ) (d : A) (inside : i < length xs) (e : Scanned others i) where
     opened : drop i xs ≡ getD xs i d ∷ drop (suc i) xs
@@ -76,16 +82,30 @@ module _ {A : Type 0} (writes passes : A → Bool) (xs : List A) where
         found : any writes xs ≡ true
         found = e .writer ∙ ap (any writes) opened ∙ (rw w refl)
 
+    pub scan-stop : writes (getD xs i d) ≡ true → i + 1 ≡ first-place writes xs
+    unfolding first-place
+    scan-stop w = sym (e .place ∙ ap (λ l. i + first-place writes l) opened ∙ (rw w refl))
+
     module _ (w : writes (getD xs i d) ≡ false) where
       on : any writes xs ≡ any writes (drop (suc i) xs)
       unfolding any
       on = e .writer ∙ ap (any writes) opened ∙ (rw w refl)
 
+      place-on : first-place writes xs ≡ suc i + first-place writes (drop (suc i) xs)
+      unfolding first-place
+      place-on =
+          e .place ∙ ap (λ l. i + first-place writes l) opened
+          ∙ (rw w (let n = first-place writes (drop (suc i) xs) in omega arith))
+
       pub scan-pass : passes (getD xs i d) ≡ true → Scanned others (i + 1)
       unfolding every
       scan-pass p =
           rw (add-one i)
-          record { writer = on; passed = e .passed ∙ ap (λ l. not others && every passes l) opened ∙ (rw p refl) }
+          record {
+            writer = on;
+            passed = e .passed ∙ ap (λ l. not others && every passes l) opened ∙ (rw p refl);
+            place = place-on;
+          }
 
       pub scan-other : passes (getD xs i d) ≡ false → Scanned true (i + 1)
       unfolding every
@@ -94,11 +114,16 @@ module _ {A : Type 0} (writes passes : A → Bool) (xs : List A) where
           record {
             writer = on;
             passed = e .passed ∙ ap (λ l. not others && every passes l) opened ∙ (rw p (and-false (not others)));
+            place = place-on;
           }
         where
           and-false : (b : Bool) → (b && false) ≡ false
           and-false true = refl
           and-false false = refl
+
+  pub scan-end : (others : Bool) (i : ℕ) → length xs ≤ i → Scanned others i → i + 1 ≡ first-place writes xs
+  unfolding first-place
+  scan-end others i h e = sym (e .place ∙ ap (λ l. i + first-place writes l) (drop-of-length-le xs h))
 
   pub scan-all :
       (others : Bool) (i : ℕ) → length xs ≤ i → Scanned others i
@@ -260,54 +285,68 @@ module _ (modes : List ℕ) (task : ℕ) (w : Wanted) where
 
 -- The first `at` of the order, of which i have been looked at.
 module _ (modes order : List ℕ) (at : ℕ) (gs : List Access) where
-  pub Searched : Bool → ℕ → Type 0
-  Searched others i = Scanned (writes-one modes gs) (passes-all modes gs) (take at order) others i
+  pub SearchedTo : Bool → ℕ → Type 0
+  SearchedTo others i = Scanned (writes-one modes gs) (passes-all modes gs) (take at order) others i
 
-  pub searched-none : Searched false 0
-  unfolding Searched
+  -- the search's answer by its two parts
+  answer : (h : Hold) (place : ℕ) → h ≡ hold-ahead modes (take at order) gs → place ≡ first-place (writes-one modes gs) (take at order)
+      → searched h place ≡ searched-ahead modes (take at order) gs
+  unfolding searched-ahead
+  answer h place q p = ap (λ x. searched x place) q ∙ ap (searched (hold-ahead modes (take at order) gs)) p
+
+  pub searched-none : SearchedTo false 0
+  unfolding SearchedTo
   searched-none = scan-none (writes-one modes gs) (passes-all modes gs) (take at order)
 
-  pub searched-all : (others : Bool) (i : ℕ) → at ≤ i → Searched others i → held-by false (not others) ≡ hold-ahead modes (take at order) gs
-  unfolding Searched hold-ahead
-  searched-all others i h e =
-      scan-all (writes-one modes gs) (passes-all modes gs) (take at order) others i (omega (arith, length-take at order)) e
+  module _ (others : Bool) (i : ℕ) (hold : Hold) (told : hold ≡ held-by false (not others)) (e : SearchedTo others i) where
+    ends : length (take at order) ≤ i → searched hold (i + 1) ≡ searched-ahead modes (take at order) gs
+    unfolding SearchedTo hold-ahead
+    ends h =
+        answer hold (i + 1) (told ∙ scan-all (writes-one modes gs) (passes-all modes gs) (take at order) others i h e)
+        (scan-end (writes-one modes gs) (passes-all modes gs) (take at order) others i h e)
 
-  pub searched-whole :
-      (others : Bool) (i : ℕ) → length order ≡ 128 → 128 ≤ i → Searched others i
-      → held-by false (not others) ≡ hold-ahead modes (take at order) gs
-  unfolding Searched hold-ahead
-  searched-whole others i len h e =
-      scan-all (writes-one modes gs) (passes-all modes gs) (take at order) others i (omega (arith, length-take at order)) e
+    pub searched-all : at ≤ i → searched hold (i + 1) ≡ searched-ahead modes (take at order) gs
+    searched-all h = ends (omega (arith, length-take at order))
+
+    pub searched-whole : length order ≡ 128 → 128 ≤ i → searched hold (i + 1) ≡ searched-ahead modes (take at order) gs
+    searched-whole len h = ends (omega (arith, length-take at order))
 
   module _
-      (len : length order ≡ 128) (others : Bool) (i task : ℕ) (b : i < 128) (h : i < at) (t : task ≡ getD order i 0) (e : Searched others i)
+      (len : length order ≡ 128) (others : Bool) (i task : ℕ) (b : i < 128) (h : i < at) (t : task ≡ getD order i 0) (e : SearchedTo others i)
       (hold : Hold) (told : hold ≡ held-by (writes-one modes gs task) (passes-all modes gs task))
     where
       task-here : task ≡ getD (take at order) i 0
       task-here = t ∙ sym (getD-take at order i 0 h)
 
-      says : Says hold (writes-one modes gs (getD (take at order) i 0)) (passes-all modes gs (getD (take at order) i 0))
-      says =
-          subst (λ k. Says hold (writes-one modes gs k) (passes-all modes gs k)) task-here
-          (held-says hold (writes-one modes gs task) (passes-all modes gs task) told)
+      says : (x : Hold) → hold ≡ x → Says x (writes-one modes gs (getD (take at order) i 0)) (passes-all modes gs (getD (take at order) i 0))
+      says x q =
+          subst (λ k. Says x (writes-one modes gs k) (passes-all modes gs k)) task-here
+          (held-says x (writes-one modes gs task) (passes-all modes gs task) (sym q ∙ told))
 
-      pub searched-writer : hold ≡ Writer → Writer ≡ hold-ahead modes (take at order) gs
-      unfolding Searched hold-ahead
+      pub searched-writer : hold ≡ Writer → searched Writer (i + 1) ≡ searched-ahead modes (take at order) gs
+      unfolding SearchedTo hold-ahead
       searched-writer q =
-          scan-writer (writes-one modes gs) (passes-all modes gs) (take at order) others i 0 (omega (arith, length-take at order)) e
-          (subst (λ x. Says x (writes-one modes gs (getD (take at order) i 0)) (passes-all modes gs (getD (take at order) i 0))) q says)
+          let inside : i < length (take at order) = omega (arith, length-take at order) in
+          answer Writer (i + 1)
+          (scan-writer (writes-one modes gs) (passes-all modes gs) (take at order) others i 0 inside e (says Writer q))
+          (scan-stop (writes-one modes gs) (passes-all modes gs) (take at order) others i 0 inside e (says Writer q))
 
-      pub searched-pass : hold ≡ Free → Searched others (i + 1)
-      unfolding Searched
+      pub searched-pass : hold ≡ Free → SearchedTo others (i + 1)
+      unfolding SearchedTo
       searched-pass q =
-          let s = subst (λ x. Says x (writes-one modes gs (getD (take at order) i 0)) (passes-all modes gs (getD (take at order) i 0))) q says in
+          let s = says Free q in
           scan-pass (writes-one modes gs) (passes-all modes gs) (take at order) others i 0 (omega (arith, length-take at order)) e (s .0) (s .1)
 
-      pub searched-other : hold ≡ Others → Searched true (i + 1)
-      unfolding Searched
+      pub searched-other : hold ≡ Others → SearchedTo true (i + 1)
+      unfolding SearchedTo
       searched-other q =
-          let s = subst (λ x. Says x (writes-one modes gs (getD (take at order) i 0)) (passes-all modes gs (getD (take at order) i 0))) q says in
+          let s = says Others q in
           scan-other (writes-one modes gs) (passes-all modes gs) (take at order) others i 0 (omega (arith, length-take at order)) e (s .0) (s .1)
+
+every-same : {A : Type 0} (p q : A → Bool) (l : List A) → ((a : A) → In a l → p a ≡ q a) → every p l ≡ every q l
+unfolding every
+every-same p q [] h = refl
+every-same p q (a ∷ l) h = rw (h a (inl refl), every-same p q l (λ b i. h b (inr i))) refl
 
 -- what a hold makes of a call with this effect
 abbrev pub outcome-by : Hold → Effect → Outcome
@@ -317,11 +356,6 @@ outcome-by Others e = refuse 20
 
 -- the model's answer, where the table's rows are the modes of the tasks in the order
 module _ (r : Run) (n : ℕ) (modes : List ℕ) (rows : (k : ℕ) → In k (r .order) → row k modes ≡ task-of r k .modes) (gs : List Access) where
-  every-same : {A : Type 0} (p q : A → Bool) (l : List A) → ((a : A) → In a l → p a ≡ q a) → every p l ≡ every q l
-  unfolding every
-  every-same p q [] h = refl
-  every-same p q (a ∷ l) h = rw (h a (inl refl), every-same p q l (λ b i. h b (inr i))) refl
-
   same-writers : any (writes-one modes gs) (ahead n (r .order)) ≡ any (Model.writes-one r gs) (ahead n (r .order))
   unfolding writes-one
   same-writers =
@@ -346,3 +380,63 @@ module _ (r : Run) (n : ℕ) (modes : List ℕ) (rows : (k : ℕ) → In k (r .o
       sort Free s = admit-free r n gs e (sym same-passers ∙ s .1)
       sort Writer s = admit-writer r n gs e asks (sym same-writers ∙ s)
       sort Others s = admit-others r n gs e asks (sym same-writers ∙ s .0) (sym same-passers ∙ s .1)
+
+-- the model's search, where the table holds its modes
+module _ (r : Run) (n : ℕ) (modes : List ℕ) (same : (k a : ℕ) → getD (row k modes) a 0 ≡ mode-of (task-of r k) a) (gs : List Access) where
+  same-writes : (k : ℕ) → writes-one modes gs k ≡ Model.writes-one r gs k
+  unfolding writes-one
+  same-writes k =
+      any-same (λ g. eqb (getD (row k modes) (g .location) 0) 2) (λ g. eqb (mode-of (task-of r k) (g .location)) 2) gs
+      (λ g i. ap (λ m. eqb m 2) (same k (g .location)))
+
+  same-passes : (k : ℕ) → passes-all modes gs k ≡ Model.passes-all r gs k
+  unfolding passes-all
+  same-passes k =
+      every-same (λ g. compatible (getD (row k modes) (g .location) 0) (g .mode))
+      (λ g. compatible (mode-of (task-of r k) (g .location)) (g .mode)) gs
+      (λ g i. ap (λ m. compatible m (g .mode)) (same k (g .location)))
+
+  abbrev Agrees : List ℕ → Type 0
+  Agrees o = found-of (searched-ahead modes (ahead n o) gs) ≡ Model.search-from r n gs o
+
+  -- one task of the order, by whether it is the task itself and whether it is a writer
+  module _ (k : ℕ) (ks : List ℕ) where
+    by-itself : eqb k n ≡ true → Agrees (k ∷ ks)
+    unfolding found-of searched-ahead hold-ahead first-place any every ahead Model.search-from
+    by-itself q = rw q refl
+
+    module _ (q : eqb k n ≡ false) where
+      by-writer : Model.writes-one r gs k ≡ true → Agrees (k ∷ ks)
+      unfolding found-of searched-ahead hold-ahead first-place any every ahead Model.search-from
+      by-writer w = rw (q, same-writes k, w) refl
+
+      by-rest : Model.writes-one r gs k ≡ false → Agrees ks → Agrees (k ∷ ks)
+      unfolding found-of searched-ahead hold-ahead first-place any every ahead Model.search-from
+      by-rest w ih =
+          rw (q, same-writes k, w, same-passes k)
+          (on (Model.passes-all r gs k) (any (writes-one modes gs) (ahead n ks)) (every (passes-all modes gs) (ahead n ks)) (first-place (writes-one modes gs) (ahead n ks))
+          ∙ ap (Model.behind (Model.passes-all r gs k)) ih)
+        where
+          on : (p w e : Bool) (m : ℕ) → found-by (held-by w (p && e)) (suc m) ≡ Model.behind p (found-by (held-by w e) m)
+          on true true e m = refl
+          on true false true m = refl
+          on true false false m = refl
+          on false true e m = refl
+          on false false true m = refl
+          on false false false m = refl
+
+  search-by-from : (o : List ℕ) → In n o → Agrees o
+  search-by-from [] i = absurd i
+  search-by-from (k ∷ ks) i = sort (search-by-from ks) (eqb k n) refl (Model.writes-one r gs k) refl i
+    where
+      sort :
+          (In n ks → Agrees ks) → (own : Bool) → eqb k n ≡ own → (w : Bool) → Model.writes-one r gs k ≡ w → In n (k ∷ ks)
+          → Agrees (k ∷ ks)
+      sort ih true q w p i = by-itself k ks q
+      sort ih false q true p i = by-writer k ks q p
+      sort ih false q false p (inl e) = absurd (false≢true (sym q ∙ eq-eqb k n (sym e)))
+      sort ih false q false p (inr i) = by-rest k ks q p (ih i)
+
+  pub search-by : In n (r .order) → found-of (searched-ahead modes (ahead n (r .order)) gs) ≡ Model.search r n gs
+  unfolding Model.search
+  search-by i = search-by-from (r .order) i

@@ -1,12 +1,14 @@
 -- What the tasks ahead do to the accesses of a call, by the table of modes.
-use Prim.Native.Nat.{ℕ}
+use Prim.Native.Nat.{ℕ, suc}
 use mathlib.Core.List.{List, [], _∷_}
-use mathlib.Core.Bool.{Bool, true, false}
+use mathlib.Core.Bool.{Bool, true, false, cond}
 use lib.ListN.{getD, take}
 use lib.Dec.{eqb}
 use Rattle.semantics.specs.Access.{Access, every, any, compatible}
+use Rattle.semantics.specs.Search.{Found, found}
 use Rattle.tables.specs.declared.Hold.{Hold}
 use Rattle.tables.specs.declared.Hold.the-variants.{Free, Writer, Others}
+use Rattle.tables.specs.declared.Searched.{Searched}
 use Rattle.tables.specs.declared.Wanted.{Wanted}
 use Rattle.tables.specs.Rows.{row}
 
@@ -39,3 +41,22 @@ held-by false false = Others
 -- what these tasks do to these accesses
 unfoldable pub hold-ahead : List ℕ → List ℕ → List Access → Hold
 hold-ahead modes tasks gs = held-by (any (writes-one modes gs) tasks) (every (passes-all modes gs) tasks)
+
+-- the place of the first item that passes a test, counted from 1; behind the last where none does
+unfoldable pub first-place : {A : Type 0} → (A → Bool) → List A → ℕ
+first-place test [] = 1
+first-place test (a ∷ l) = cond (test a) 1 (suc (first-place test l))
+
+-- what a search of a task with these tasks ahead of it finds: it stops at the first writer, or at the task itself
+unfoldable pub searched-ahead : List ℕ → List ℕ → List Access → Searched
+searched-ahead modes tasks gs =
+    record { hold = hold-ahead modes tasks gs; looked = first-place (writes-one modes gs) tasks }
+
+-- the same in the model's words
+abbrev pub found-by : Hold → ℕ → Found
+found-by Free looked = found false true looked
+found-by Writer looked = found true false looked
+found-by Others looked = found false false looked
+
+unfoldable pub found-of : Searched → Found
+found-of s = found-by (s .hold) (s .looked)

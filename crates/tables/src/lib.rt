@@ -29,6 +29,12 @@ pub enum Hold {
     Others,
 }
 
+// What a search of the tasks ahead found, and at how many tasks it looked: the place where it stopped, counted from 1.
+pub struct Searched {
+    pub hold: Hold,
+    pub looked: usize,
+}
+
 // The accesses of a call: the first `count` locations, and the mode that each is asked for in.
 pub struct Wanted {
     pub count: usize,

@@ -7,8 +7,9 @@ ghost use lib.ListN.{length, take};
 ghost use Rattle.semantics.specs.Access.{compatible};
 ghost use Rattle.semantics.specs.Plan.{needs-from};
 ghost use Rattle.tables.specs.Rows.{row};
-ghost use Rattle.tables.specs.Ahead.{access, accesses-of, writes-one, passes-all, held-by, hold-ahead};
+ghost use Rattle.tables.specs.Ahead.{access, accesses-of, writes-one, passes-all, held-by, searched-ahead};
 use crate::Hold;
+use crate::Searched;
 use crate::Wanted;
 use crate::modes::mode_at;
 
@@ -111,25 +112,34 @@ fn hold_of(modes: &[u8; 8192], task: usize, wanted: Wanted) -> Hold
     without_writer(others)
 }
 
-// What the first `at` of the order do to these accesses, task by task from the front, to the first that has mode write at
-// one of the locations.
+// The search of the task at place `at` of the order for what holds these accesses back: task by task from the front, to the
+// first that has mode write at one of the locations, or to the task itself.
 pub fn search_ahead<'a>(
     order: &'a [u8; 128],
     at: usize,
     modes: &'a [u8; 8192],
     wanted: Wanted,
-) -> Hold
-    ensures { λ r. ⌜ (length (now (order .entry)) ≡ 128 → length (now (modes .entry)) ≡ 8192 → r ≡ hold-ahead (now (modes .entry)) (take at (now (order .entry))) (accesses-of wanted)) ⌝ }
+) -> Searched
+    ensures { λ r. ⌜ (length (now (order .entry)) ≡ 128 → length (now (modes .entry)) ≡ 8192 → r ≡ searched-ahead (now (modes .entry)) (take at (now (order .entry))) (accesses-of wanted)) ⌝ }
 {
     let mut others = false;
     let mut i = 0;
     while i < 128 {
+        let looked = i + 1;
         if at <= i {
-            return without_writer(others);
+            return Searched {
+                hold: without_writer(others),
+                looked,
+            };
         }
         let hold = hold_of(modes, wide(order[i]), wanted);
         match hold {
-            Hold::Writer => return Hold::Writer,
+            Hold::Writer => {
+                return Searched {
+                    hold: Hold::Writer,
+                    looked,
+                }
+            }
             Hold::Others => {
                 others = true;
                 i += 1;
@@ -139,5 +149,8 @@ pub fn search_ahead<'a>(
             }
         }
     }
-    without_writer(others)
+    Searched {
+        hold: without_writer(others),
+        looked: 129,
+    }
 }

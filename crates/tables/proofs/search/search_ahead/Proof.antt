@@ -1,18 +1,18 @@
 -- None of the first i of the order is a writer.
 -- Assumes nothing.
-use Prim.Native.Nat.{_-_, _≤_}
-use mathlib.Core.Path.{_≡_, _∙_}
+use Prim.Native.Nat.{_+_, _-_, _≤_}
+use mathlib.Core.Path.{_≡_, sym, ap, _∙_}
 use lib.ListN.{length}
 use native.Mathlib.Omega.{arith}
 use Rattle.tables.specs.Ahead.{accesses-of}
-use Rattle.tables.proofs.SearchLaws.{Searched, searched-none, searched-all, searched-whole, searched-writer, searched-pass, searched-other}
+use Rattle.tables.proofs.SearchLaws.{searched, SearchedTo, searched-none, searched-all, searched-whole, searched-writer, searched-pass, searched-other}
 use borrow.Author.Needs.{needs}
 use Rattle.tables.proofs.search.search_ahead.Statement.{statement}
 use Rattle.tables.proofs.search.search_ahead.Tie as tie
 
 abbrev Inv-loop : tie.InvT-loop
 Inv-loop order at modes wanted others₀ i₀ others i =
-    (i ≤ 128) × (length order ≡ 128 → length modes ≡ 8192 → Searched modes order at (accesses-of wanted) others i)
+    (i ≤ 128) × (length order ≡ 128 → length modes ≡ 8192 → SearchedTo modes order at (accesses-of wanted) others i)
 
 abbrev μ-loop : tie.MeasureT-loop
 μ-loop order at modes wanted others₀ i₀ others i = 128 - i
@@ -22,6 +22,9 @@ loop-holds c =
     let a = c .args in
     (search needs, λ len rows. searched-none (a .modes .now) (a .order .now) (a .at) (accesses-of (a .wanted)))
 
+add-looked : tie.Need-add-looked Inv-loop μ-loop
+add-looked c = search needs
+
 without-writer-requires : tie.Need-without-writer-requires Inv-loop μ-loop
 without-writer-requires c κs = search needs
 
@@ -30,8 +33,8 @@ returns c =
     λ len rows.
     let a = c .before .before .before .before .args in
     let at = c .before .before .before .loop in
-    c .without-writer .ensures
-    ∙ searched-all (a .modes .now) (a .order .now) (a .at) (accesses-of (a .wanted)) (at .others) (at .i) (c .before .if1 .taken) (at .inv .1 len rows)
+    searched-all (a .modes .now) (a .order .now) (a .at) (accesses-of (a .wanted)) (at .others) (at .i) (c .without-writer .result)
+    (c .without-writer .ensures) (at .inv .1 len rows) (c .before .if1 .taken)
 
 element-copy-out-wide : tie.Need-element-copy-out-wide Inv-loop μ-loop
 element-copy-out-wide c = search needs
@@ -102,8 +105,10 @@ returns-3 c =
     λ len rows.
     let a = c .before .before .before .args in
     let at = c .before .before .loop in
-    c .without-writer2 .ensures
-    ∙ searched-whole (a .modes .now) (a .order .now) (a .at) (accesses-of (a .wanted)) (at .others) (at .i) len (omega arith) (at .inv .1 len rows)
+    let all : at .i ≡ 128 = omega arith in
+    ap (λ i. searched (c .without-writer2 .result) (i + 1)) (sym all)
+    ∙ searched-whole (a .modes .now) (a .order .now) (a .at) (accesses-of (a .wanted)) (at .others) (at .i) (c .without-writer2 .result)
+    (c .without-writer2 .ensures) (at .inv .1 len rows) len (omega arith)
 
 pub search-ahead-spec : {M : Type 1} → statement M
 search-ahead-spec =
@@ -112,6 +117,7 @@ search-ahead-spec =
     Inv-loop
     μ-loop
     loop-holds
+    add-looked
     without-writer-requires
     returns
     element-copy-out-wide

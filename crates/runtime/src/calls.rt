@@ -68,7 +68,8 @@ fn start_look<'a>(
                 };
             }
             let wanted = tables::wanted_of(modes, task as usize);
-            let hold = tables::search_ahead(order, place, modes, wanted);
+            let searched = tables::search_ahead(order, place, modes, wanted);
+            let hold = searched.hold;
             match hold {
                 Hold::Free => Located::At { place },
                 Hold::Writer => Located::Refused {

@@ -111,7 +111,8 @@ fn access_of<'a>(
         return Access::Fault { fault };
     }
     let wanted = tables::wanted_at(location, asked);
-    let hold = tables::search_ahead(order, place, modes, wanted);
+    let searched = tables::search_ahead(order, place, modes, wanted);
+    let hold = searched.hold;
     match hold {
         Hold::Free => Access::Free,
         Hold::Writer => Access::Held {

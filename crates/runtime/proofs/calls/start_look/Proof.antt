@@ -5,7 +5,7 @@ use mathlib.Core.Path.{_≡_, sym, ap, subst, _∙_}
 use denote.Ref.{now}
 use Rattle.semantics.specs.Answers.{refusal-number}
 use Rattle.semantics.specs.Plan.{start}
-use Rattle.tables.specs.Ahead.{accesses-of}
+use Rattle.tables.specs.Ahead.{searched-ahead, accesses-of}
 use Rattle.tables.specs.declared.Hold.{Hold}
 use Rattle.tables.specs.declared.Hold.the-variants.{Free, Writer, Others}
 use Rattle.tables.proofs.SearchLaws.{outcome-by}
@@ -38,16 +38,17 @@ found c run =
 
 -- by the search
 looked :
-    (c : tie.After-search-ahead) (x : Hold) → c .search-ahead .result ≡ x → (run : Run)
+    (c : tie.After-search-ahead) (x : Hold) → c .search-ahead .result .hold ≡ x → (run : Run)
     → record-of run (c .before .before .before .before .before .before .before .before .args .task) ≡ c .before .before .before .before .before .before .before .before .args .own
     → let at = c .before .before .before .before .before in
     SoundRun (run-at at run) → decided (run-at at run) start (task-at at) ≡ outcome-by x (start-effect (run-at at run) (task-at at))
+unfolding searched-ahead
 looked c x is run same s =
     let at = c .before .before .before .before .before in
     let wanted = c .before .wanted-of in
     start-looked (run-at at run) (task-at at) (found at run .0) s (place-at at) (found at run .1 s)
     (ap (λ t. t .state) same ∙ c .before .before .if1 .left) (accesses-of (wanted .result)) (wanted .ensures (s .modes) (found at run .0))
-    (c .search-ahead .result) (c .search-ahead .ensures (s .order) (s .modes)) x is
+    (c .search-ahead .result .hold) (ap (λ y. y .hold) (c .search-ahead .ensures (s .order) (s .modes))) x is
 
 place-of-requires : tie.Need-place-of-requires
 place-of-requires c κs = search needs

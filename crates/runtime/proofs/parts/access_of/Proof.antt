@@ -1,10 +1,11 @@
 -- A fault, else by the search.
 -- Assumes nothing.
-use mathlib.Core.Path.{_≡_}
+use mathlib.Core.Path.{_≡_, ap}
 use denote.Ref.{now}
 use Rattle.semantics.specs.Answers.{refusal-number}
 use Rattle.tables.specs.declared.Hold.{Hold}
 use Rattle.tables.specs.declared.Hold.the-variants.{Free, Writer, Others}
+use Rattle.tables.specs.Ahead.{searched-ahead}
 use Rattle.runtime.specs.declared.Run.{Run}
 use Rattle.runtime.specs.Steps.{looking}
 use Rattle.runtime.proofs.StepLaws.{AccessBy, access-faults, access-looked}
@@ -14,17 +15,19 @@ use Rattle.runtime.proofs.parts.access_of.Tie as tie
 
 -- by the search
 looked :
-    (c : tie.After-search-ahead) (x : Hold) → c .search-ahead .result ≡ x → (run : Run)
+    (c : tie.After-search-ahead) (x : Hold) → c .search-ahead .result .hold ≡ x → (run : Run)
     → let a = c .before .before .before .before .before .args in
     AccessBy (looking (now (a .order)) (now (a .modes)) run) (a .task) (a .place) (a .location) (a .asked) x
+unfolding searched-ahead
 looked c x is run =
     let own = c .before .before .before .before .mode-at in
     let fault = c .before .before .before .access-fault in
     let wanted = c .before .wanted-at in
-    let hold = c .search-ahead in
+    let searched = c .search-ahead in
     let a = c .before .before .before .before .before .args in
     access-looked (looking (now (a .order)) (now (a .modes)) run) (a .task) (a .place) (a .location) (a .asked) (own .result) (fault .result) (own .ensures) (fault .ensures)
-    (c .before .before .if1 .left) (wanted .result) (wanted .ensures) (hold .result) (hold .ensures) x is
+    (c .before .before .if1 .left) (wanted .result) (wanted .ensures) (searched .result .hold)
+    (λ order modes. ap (λ y. y .hold) (searched .ensures order modes)) x is
 
 mode-at-requires : tie.Need-mode-at-requires
 mode-at-requires c κs = search needs

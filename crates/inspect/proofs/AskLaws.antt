@@ -1,4 +1,4 @@
--- What is asked of a run: the queue's places, counted and put, and a task's record. Assumes nothing.
+-- What is asked of a run: the queue's places, counted and put, a task's record and its search. Assumes nothing.
 use Prim.Native.Nat.{ℕ, _+_, _*_, _≤_, _<_, min}
 use mathlib.Core.Path.{_≡_, refl, sym, ap, _∙_}
 use mathlib.Core.List.{List, [], _∷_, _++_, map}
@@ -6,7 +6,7 @@ use mathlib.Core.Bool.{Bool, true, false, cond, not}
 use native.Mathlib.Omega.{arith}
 use native.Mathlib.Nat.{zero-add}
 use lib.ListN.{length, take, drop, getD, length-take}
-use lib.Seq.{sets, sets-eq, getD-take}
+use lib.Seq.{sets, sets-eq, getD-take, take-take}
 use lib.Dec.{eqb}
 use borrow.Author.Tests.{lt-ltb, le-ltb, le-leb, lt-leb, eq-eqb, ne-eqb}
 use Rattle.tasklist.specs.Encode.{joined}
@@ -17,10 +17,18 @@ use Rattle.tasklist.proofs.PlaceLaws.{getD-default}
 use Rattle.semantics.specs.declared.CallRefusal.the-variants as Refusals
 use Rattle.semantics.specs.Run.{mode-of, task-of}
 use Rattle.semantics.specs.Run as Semantics
-use Rattle.semantics.specs.Access.{only, queue}
-use Rattle.semantics.specs.Operations.{denies, gives, record-asked, queue-places, queue-asked}
+use Rattle.semantics.specs.Access.{Access, only, queue}
+use Rattle.semantics.specs.Operations.{denies, gives, record-asked, queue-places, queue-asked, search-asked}
 use Rattle.semantics.specs.Answers.{refusal-number, task-from}
+use Rattle.semantics.proofs.Order.{among-in}
+use Rattle.tables.specs.declared.Place.{Place}
+use Rattle.tables.specs.declared.Place.the-variants as Places
+use Rattle.tables.specs.declared.Searched.{Searched}
 use Rattle.tables.specs.Rows.{row}
+use Rattle.tables.specs.Places.{place-of}
+use Rattle.tables.specs.Ahead.{searched-ahead, found-of}
+use Rattle.tables.proofs.SpliceLaws.{placed, unplaced}
+use Rattle.tables.proofs.SearchLaws.{search-by}
 use Rattle.runtime.specs.declared.Run.{Run}
 use Rattle.runtime.specs.declared.Queued.the-variants as Queueing
 use Rattle.runtime.specs.View.{model, context-of, blank-record}
@@ -143,3 +151,28 @@ record-given run n row-read h r e =
     ∙ ap (λ x. task-from x (row n (run .modes))) (getD-default (run .records) n no-record blank-record (omega arith))
     ∙ sym own in
     rw t (ap gives same)
+
+-- The three answers of a search.
+module _ (run : Run) (n : ℕ) (gs : List Access) where
+  pub search-beyond : 127 < n → denies 9 ≡ search-asked (model run) n gs
+  unfolding search-asked
+  search-beyond h = sym (rw (le-ltb n 128 (omega arith)) refl)
+
+  module _ (below : n < 128) (p : Place) (found : p ≡ place-of n (take (run .left) (run .order))) where
+    pub search-absent : p ≡ Places.Absent → denies 10 ≡ search-asked (model run) n gs
+    unfolding search-asked model
+    search-absent q =
+        let none = unplaced n (take (run .left) (run .order)) (sym found ∙ q) in
+        sym (rw (lt-ltb n 128 below, none) refl)
+
+    pub search-given :
+        (at : ℕ) → p ≡ Places.At at → length (run .records) ≡ 128 → length (run .modes) ≡ 8192 → (s : Searched)
+        → s ≡ searched-ahead (run .modes) (take at (run .order)) gs → gives (found-of s) ≡ search-asked (model run) n gs
+    unfolding search-asked model
+    search-given at q r m s e =
+        let there = placed n (take (run .left) (run .order)) at (sym found ∙ q) in
+        let ahead-of = sym (there .before) ∙ take-take at (run .left) (run .order) (omega (arith, there .within, length-take (run .left) (run .order))) in
+        rw (lt-ltb n 128 below, there .listed)
+        (ap gives
+        (ap found-of (e ∙ ap (λ l. searched-ahead (run .modes) l gs) (sym ahead-of))
+        ∙ search-by (model run) n (run .modes) (λ k a. mode-is run k a r m) gs (among-in n (take (run .left) (run .order)) (there .listed))))

@@ -1,4 +1,4 @@
-// What is asked of a run: a task's record, a location's queue, the accepted list's bytes.
+// What is asked of a run: a task's record, a location's queue, a task's search, the accepted list's bytes.
 ghost use Prim.Native.Nat.{ℕ, _+_, _≤_, min};
 ghost use mathlib.Core.Path.{_≡_};
 ghost use lib.ListN.{length};
@@ -6,16 +6,27 @@ ghost use lib.Seq.{sets};
 ghost use Rattle.tasklist.specs.Encode.{encode};
 ghost use Rattle.tasklist.specs.Tables.{list-of};
 ghost use Rattle.tasklist.specs.Answers.{written, write-answer, write-places};
-ghost use Rattle.semantics.specs.Operations.{record-asked, queue-asked};
+ghost use Rattle.semantics.specs.Operations.{record-asked, queue-asked, search-asked};
+ghost use Rattle.tables.specs.Ahead.{accesses-of};
 ghost use Rattle.runtime.specs.View.{model, context-of};
 ghost use Rattle.runtime.specs.Asked.{recorded, QueuedAs};
 ghost use Rattle.runtime.specs.Parts.{shown, all-shown};
+ghost use Rattle.inspect.specs.Told.{told};
 use runtime::Queued;
 use runtime::Recorded;
 use runtime::Run;
 use semantics::Answer;
 use semantics::CallRefusal;
+use tables::Place;
+use tables::Searched;
+use tables::Wanted;
 use tasklist::Written;
+
+// What a task's search found, or why there is none.
+pub enum SearchAnswer {
+    Refused { refusal: CallRefusal },
+    Found { searched: Searched },
+}
 
 // A byte as an index.
 fn wide(x: u8) -> usize
@@ -125,6 +136,28 @@ pub fn location_queue(run: Run, location: u32, out: &mut [u16]) -> Queued
     }
     put_queue(run, location as usize, out);
     Queued::Places(n)
+}
+
+// The search of a task for what holds these accesses back, those of its start (`tables::wanted_of`) or the one of its step
+// (`tables::wanted_at`): 9 number above 127, 10 not in the order.
+pub fn task_search(run: Run, task: u32, wanted: Wanted) -> SearchAnswer
+    ensures { λ r. ⌜ told r ≡ search-asked (model run) task (accesses-of wanted) ⌝ }
+{
+    if 127 < task {
+        return SearchAnswer::Refused {
+            refusal: CallRefusal::Number,
+        };
+    }
+    let place = tables::position(&run.order, run.left, task as u8);
+    match place {
+        Place::Absent => SearchAnswer::Refused {
+            refusal: CallRefusal::Absent,
+        },
+        Place::At(at) => {
+            let searched = tables::search_ahead(&run.order, at, &run.modes, wanted);
+            SearchAnswer::Found { searched }
+        }
+    }
 }
 
 // Writes the accepted list's records, its own bytes but for a file of none: 17 `out` too short.

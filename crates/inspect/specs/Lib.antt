@@ -1,0 +1,2 @@
+-- What is told of a run.
+pub mod Told

@@ -1,7 +1,7 @@
 // Job lists: the reader of document 01's binary format, and the tables that a read list is kept in. The writer and what is
 // asked of the tables stand above, in `listing`; the runtime above both uses promises only.
 
-// One instruction of a task body (document 01: sheet), one case for each of the nine forms.
+// One instruction of a task body (document 01: sheet), one case for each of the ten forms.
 pub enum Instruction {
     // 0 const: register `target` := `value`.
     Const { target: u8, value: u16 },
@@ -21,6 +21,12 @@ pub enum Instruction {
     Spawn { body: u8, footprint: u8 },
     // 8 wait: for the location whose number is in register `place`.
     Wait { place: u8 },
+    // 9 fan (request 104): `children` tasks that run `body` under `footprint`, each with its own number in register 0.
+    Fan {
+        body: u8,
+        footprint: u8,
+        children: u8,
+    },
 }
 
 // One line of a footprint: kind 0 reads and 1 writes location `value`; 2 reads and 3 writes the location whose

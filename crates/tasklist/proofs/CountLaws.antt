@@ -5,7 +5,7 @@ use mathlib.Core.List.{List, [], _∷_}
 use mathlib.Core.Bool.{Bool, true, false, cond}
 use native.Mathlib.Omega.{arith}
 use native.Mathlib.Numerals.{add-one}
-use native.Mathlib.Nat.{zero-mul, suc-mul}
+use native.Mathlib.Nat.{zero-mul, suc-mul, le-trans, mul-le-mul-left, mul-le-mul-right}
 use lib.ListN.{length, drop, getD, set, replicate, drop-of-length-le}
 use lib.Seq.{drop-cons, getD-set-same, getD-set-other}
 use lib.Dec.{leb, eqb}
@@ -48,6 +48,16 @@ adds-capped f (Skip a b) = refl
 adds-capped f (Spawn a b) = capped-once (f a)
 adds-capped f (Wait a) = refl
 adds-capped f (Fan a b c) = capped-times c (f a)
+
+-- a product of two bytes
+pub product : {a b c d : ℕ} → a ≡ b → c ≡ d → a * c ≡ b * d
+product p q = λ i. p i * q i
+
+pub product-small : (a b : ℕ) → a < 256 → b < 256 → a * b < 65536
+product-small a b h k =
+    let few : a ≤ 255 = omega arith in
+    let small : b ≤ 255 = omega arith in
+    omega (arith, le-trans (mul-le-mul-left a small) (mul-le-mul-right 255 few))
 
 -- one instruction more of a body's sum
 module _ (f : ℕ → ℕ) (b : List Instruction) (all : ℕ) where

@@ -49,6 +49,35 @@ adds-capped f (Spawn a b) = capped-once (f a)
 adds-capped f (Wait a) = refl
 adds-capped f (Fan a b c) = capped-times c (f a)
 
+-- where the sum is no more than 129, capped counts add up to the same
+times-small : (c n : ℕ) → c * n ≤ 129 → c * capped n ≡ c * n
+times-small zero n h = rw (zero-mul (capped n), zero-mul n) refl
+times-small (suc c) n h =
+    let small : n ≤ 129 = omega (arith, suc-mul c n) in
+    let same : capped n ≡ n = omega arith in
+    ap (λ (m : ℕ). suc c * m) same
+
+adds-small : (f : ℕ → ℕ) (x : Instruction) → adds f x ≤ 129 → adds (λ a. capped (f a)) x ≡ adds f x
+unfolding adds
+adds-small f (Const a v) h = refl
+adds-small f (Add a b c) h = refl
+adds-small f (Sub a b c) h = refl
+adds-small f (Less a b c) h = refl
+adds-small f (Load a b) h = refl
+adds-small f (Store a b) h = refl
+adds-small f (Skip a b) h = refl
+adds-small f (Spawn a b) h = omega arith
+adds-small f (Wait a) h = refl
+adds-small f (Fan a b c) h = times-small c (f a) h
+
+pub total-capped : (f : ℕ → ℕ) (xs : List Instruction) → total (adds f) xs ≤ 129
+    → total (adds (λ a. capped (f a))) xs ≡ total (adds f) xs
+unfolding total
+total-capped f [] h = refl
+total-capped f (x ∷ xs) h =
+    let small : adds f x + total (adds f) xs ≤ 129 = h in
+    omega (arith, adds-small f x (omega arith), total-capped f xs (omega arith))
+
 -- a product of two bytes
 pub product : {a b c d : ℕ} → a ≡ b → c ≡ d → a * c ≡ b * d
 product p q = λ i. p i * q i

@@ -36,12 +36,13 @@ numbered-packed :
     → Packed c first (numbered-from first (task-count (c .list) s) ts) (first + length ts * task-count (c .list) s)
 unfolding numbered-from
 numbered-packed c s first [] h = omega arith
-numbered-packed c s first (t ∷ ts) h = (
-  le-refl _,
-  subst (λ b. Packed c (first + task-count (c .list) b) (numbered-from (first + task-count (c .list) s) (task-count (c .list) s) ts) (first + suc (length ts) * task-count (c .list) s)) (sym (h t (inl refl)))
-  (subst (Packed c (first + task-count (c .list) s) (numbered-from (first + task-count (c .list) s) (task-count (c .list) s) ts)) (omega arith)
-  (numbered-packed c s (first + task-count (c .list) s) ts (λ x i. h x (inr i)))),
-)
+numbered-packed c s first (t ∷ ts) h =
+    let apart = task-count (c .list) s in
+    let next = first + apart in
+    let later = numbered-from next apart ts in
+    let ends : next + length ts * apart ≡ first + suc (length ts) * apart = omega arith in
+    let packed = subst (Packed c next later) ends (numbered-packed c s next ts (λ x i. h x (inr i))) in
+    (le-refl _, subst (λ b. Packed c (first + task-count (c .list) b) later (first + suc (length ts) * apart)) (sym (h t (inl refl))) packed)
 
 -- A task just made by t: waiting, at its body's begin, under t's modes, with a higher body of the list.
 pub record Newborn (c : Context) (t t′ : Task) : Type 0 where

@@ -80,6 +80,5 @@ pub fn instruction_at(tables: Tables, s: usize, i: usize) -> Instruction
 pub fn task_count(tables: Tables, s: usize) -> u8
     ensures { λ r. ⌜ r ≡ getD (tables .counts) s 1 ⌝ }
 {
-    let counts = tables.counts;
-    count_at(counts, s)
+    count_at(&tables.counts, s)
 }

@@ -74,6 +74,11 @@ fn put_instruction(out: &mut [u8], at: usize, instruction: Instruction)
         Instruction::Skip { test, length } => put_four(out, at, 6, test, length, 0),
         Instruction::Spawn { body, footprint } => put_four(out, at, 7, body, footprint, 0),
         Instruction::Wait { place } => put_four(out, at, 8, place, 0, 0),
+        Instruction::Fan {
+            body,
+            footprint,
+            children,
+        } => put_four(out, at, 9, body, footprint, children),
     }
 }
 

@@ -23,6 +23,8 @@ pub data Fact : Type 0 where
   fault-is : ℕ → ℕ → Fact
   -- the search of a task for these accesses: the number of its hold, 0 for none, and how many tasks it looked at
   search-is : ℕ → List Access → ℕ → ℕ → Fact
+  -- a task's registers
+  registers-are : ℕ → List ℕ → Fact
   calls-are : ℕ → Fact
   weight-is : ℕ → Fact
 
@@ -48,6 +50,7 @@ is-so r (order-is o) = same (r .order) o
 is-so r (queue-is a q) = same (queue-places r a) q
 is-so r (fault-is n k) = eqb (task-of r n .fault) k
 is-so r (search-is n gs k looked) = let f = search r n gs in eqb (hold-number f) k && eqb (f .looked) looked
+is-so r (registers-are n vs) = same (task-of r n .registers) vs
 is-so r (calls-are k) = eqb (r .calls) k
 is-so r (weight-is w) = eqb (r .weight) w
 

@@ -1,12 +1,14 @@
--- Document 01's example P: 54 bytes, which decode and encode again. The list of no bytes, whose records are 8 bytes.
-use Prim.Native.Nat.{ℕ}
+-- Document 01's example P: 54 bytes, which decode and encode again. The list of no bytes, whose records are 8 bytes. A
+-- list with a fan (request 104).
+use Prim.Native.Nat.{ℕ, _+_, _*_}
 use mathlib.Core.Path.{_≡_, refl}
-use mathlib.Core.List.{List, [], _∷_}
+use mathlib.Core.List.{List, [], _∷_, _++_}
 use lib.ListN.{length}
-use Rattle.tasklist.specs.declared.Instruction.the-variants.{Const, Load, Store, Spawn}
+use Rattle.tasklist.specs.declared.Instruction.{Instruction}
+use Rattle.tasklist.specs.declared.Instruction.the-variants.{Const, Load, Store, Spawn, Fan}
 use Rattle.tasklist.specs.TaskList.{TaskList, total, adds, count-body, count-from, counts, task-count}
 use Rattle.tasklist.specs.Fields.{field, is-tag, tag, in-range, number, counted, many, row}
-use Rattle.tasklist.specs.Decode.{head-numbers, head, line-limit, line-ok, is-line, line, footprint, forms, form, register, instruction-ok, is-instruction, instruction, body, list-behind, sized, finish, empty-list, decode, accepted}
+use Rattle.tasklist.specs.Decode.{head-numbers, head, line-limit, line-ok, is-line, line, footprint, forms, form, register, spawn-ok, instruction-ok, is-instruction, instruction, body, list-behind, sized, finish, empty-list, decode, accepted, refused}
 use Rattle.tasklist.specs.Encode.{instruction-fields, line-fields, joined, footprint-bytes, body-bytes, head-bytes, encode, marked}
 
 abbrev pub P-bytes : List ℕ
@@ -35,7 +37,7 @@ pub P-length : length P-bytes ≡ 54
 P-length = refl
 
 pub P-decodes : decode P-bytes ≡ accepted P
-unfolding field is-tag tag in-range number counted many row head-numbers head line-limit line-ok is-line line footprint forms form register instruction-ok is-instruction instruction body list-behind sized finish decode total adds count-body count-from counts task-count
+unfolding field is-tag tag in-range number counted many row head-numbers head line-limit line-ok is-line line footprint forms form register spawn-ok instruction-ok is-instruction instruction body list-behind sized finish decode total adds count-body count-from counts task-count
 P-decodes = refl
 
 pub P-encodes : encode P ≡ P-bytes
@@ -49,3 +51,59 @@ empty-decodes = refl
 pub empty-encodes : encode empty-list ≡ marked []
 unfolding instruction-fields line-fields joined footprint-bytes body-bytes head-bytes encode marked
 empty-encodes = refl
+
+-- one sheet that fans out c tasks of the other, each of which makes the spawns and fans given
+abbrev fan-bytes : ℕ → ℕ → List ℕ → List ℕ
+fan-bytes c n made =
+    0x4A ∷ 0x48 ∷ 16 ∷ 1 ∷ 3 ∷
+    0x4A ∷ 0x46 ∷ 1 ∷ 3 ∷ 0 ∷
+    0x4A ∷ 0x42 ∷ 2 ∷ 7 ∷ 2 ∷ 0 ∷ 0 ∷ 9 ∷ 1 ∷ 0 ∷ c ∷
+    0x4A ∷ 0x42 ∷ n ∷ (made ++ (0x4A ∷ 0x42 ∷ 0 ∷ []))
+
+abbrev fan-list : ℕ → List Instruction → TaskList
+fan-list c made =
+    record {
+      locations = 16;
+      footprints = (record { kind = 3; value = 0 } ∷ []) ∷ [];
+      bodies = (Spawn 2 0 ∷ Fan 1 0 c ∷ []) ∷ made ∷ [] ∷ [];
+    }
+
+-- "The fan adds c × count(a) to its sheet's count": a spawn's task, and two blocks of one task with its fan of five
+pub fan-counts : task-count (fan-list 2 (Fan 2 0 5 ∷ [])) 0 ≡ 1 + 1 + 2 * (1 + 5)
+unfolding total adds count-body count-from counts task-count
+fan-counts = refl
+
+pub fan-decodes : decode (fan-bytes 2 1 (9 ∷ 2 ∷ 0 ∷ 5 ∷ [])) ≡ accepted (fan-list 2 (Fan 2 0 5 ∷ []))
+unfolding field is-tag tag in-range number counted many row head-numbers head line-limit line-ok is-line line footprint forms form register spawn-ok instruction-ok is-instruction instruction body list-behind sized finish decode total adds count-body count-from counts task-count
+fan-decodes = refl
+
+pub fan-encodes : encode (fan-list 2 (Fan 2 0 5 ∷ [])) ≡ fan-bytes 2 1 (9 ∷ 2 ∷ 0 ∷ 5 ∷ [])
+unfolding instruction-fields line-fields joined footprint-bytes body-bytes head-bytes encode
+fan-encodes = refl
+
+-- "c children (1 to 16)", "A bad c gives 5."
+pub fan-of-sixteen : decode (fan-bytes 16 0 []) ≡ accepted (fan-list 16 [])
+unfolding field is-tag tag in-range number counted many row head-numbers head line-limit line-ok is-line line footprint forms form register spawn-ok instruction-ok is-instruction instruction body list-behind sized finish decode total adds count-body count-from counts task-count
+fan-of-sixteen = refl
+
+pub fan-of-seventeen : decode (fan-bytes 17 0 []) ≡ refused 5
+unfolding field is-tag tag in-range number counted many row head-numbers head line-limit line-ok is-line line footprint forms form register spawn-ok instruction-ok is-instruction instruction body list-behind sized finish decode total adds count-body count-from counts task-count
+fan-of-seventeen = refl
+
+pub fan-of-none : decode (fan-bytes 0 0 []) ≡ refused 5
+unfolding field is-tag tag in-range number counted many row head-numbers head line-limit line-ok is-line line footprint forms form register spawn-ok instruction-ok is-instruction instruction body list-behind sized finish decode total adds count-body count-from counts task-count
+fan-of-none = refl
+
+-- a sheet that is not higher, as a spawn's
+pub fan-of-itself : decode (fan-bytes 2 1 (9 ∷ 1 ∷ 0 ∷ 5 ∷ [])) ≡ refused 5
+unfolding field is-tag tag in-range number counted many row head-numbers head line-limit line-ok is-line line footprint forms form register spawn-ok instruction-ok is-instruction instruction body list-behind sized finish decode total adds count-body count-from counts task-count
+fan-of-itself = refl
+
+-- 2 + 14 × 9 = 128 tasks, and 2 + 15 × 9 = 137
+pub fan-of-128 : decode (fan-bytes 14 1 (9 ∷ 2 ∷ 0 ∷ 8 ∷ [])) ≡ accepted (fan-list 14 (Fan 2 0 8 ∷ []))
+unfolding field is-tag tag in-range number counted many row head-numbers head line-limit line-ok is-line line footprint forms form register spawn-ok instruction-ok is-instruction instruction body list-behind sized finish decode total adds count-body count-from counts task-count
+fan-of-128 = refl
+
+pub fan-of-137 : decode (fan-bytes 15 1 (9 ∷ 2 ∷ 0 ∷ 8 ∷ [])) ≡ refused 7
+unfolding field is-tag tag in-range number counted many row head-numbers head line-limit line-ok is-line line footprint forms form register spawn-ok instruction-ok is-instruction instruction body list-behind sized finish decode total adds count-body count-from counts task-count
+fan-of-137 = refl

@@ -5,12 +5,13 @@ use mathlib.Core.List.{List, [], _∷_}
 use mathlib.Core.Bool.{Bool, true, false, cond}
 use native.Mathlib.Omega.{arith}
 use native.Mathlib.Numerals.{add-one}
+use native.Mathlib.Nat.{zero-mul, suc-mul, le-trans, mul-le-mul-left, mul-le-mul-right}
 use lib.ListN.{length, drop, getD, set, replicate, drop-of-length-le}
 use lib.Seq.{drop-cons, getD-set-same, getD-set-other}
 use lib.Dec.{leb, eqb}
 use borrow.Author.Tests.{le-leb, lt-leb, leb-true, leb-false, eqb-true, eqb-false}
 use Rattle.tasklist.specs.declared.Instruction.{Instruction}
-use Rattle.tasklist.specs.declared.Instruction.the-variants.{Const, Add, Sub, Less, Load, Store, Skip, Spawn, Wait}
+use Rattle.tasklist.specs.declared.Instruction.the-variants.{Const, Add, Sub, Less, Load, Store, Skip, Spawn, Wait, Fan}
 use Rattle.tasklist.specs.TaskList.{total, adds, count-body, count-from, counts, blank-instruction}
 use Rattle.tasklist.specs.Tables.{capped}
 
@@ -22,7 +23,20 @@ getD-replicate-self (suc n) (suc i) a = getD-replicate-self n i a
 pub adds-same : (f g : ℕ → ℕ) (x : Instruction) → ((a : ℕ) → f a ≡ g a) → adds f x ≡ adds g x
 adds-same f g x e = ap (λ (h : ℕ → ℕ). adds h x) (fun-ext e)
 
-adds-capped : (f : ℕ → ℕ) (x : Instruction) → adds (λ a. capped (f a)) x ≡ capped (adds f x)
+-- sums that are capped are capped sums, and so are multiples
+capped-sum : (a b c d : ℕ) → capped a ≡ capped b → capped c ≡ capped d → capped (a + c) ≡ capped (b + d)
+capped-sum a b c d p q = omega (arith, p, q)
+
+capped-once : (n : ℕ) → capped (capped n) ≡ capped n
+capped-once n = omega arith
+
+capped-times : (c n : ℕ) → capped (c * capped n) ≡ capped (c * n)
+capped-times zero n = rw (zero-mul (capped n), zero-mul n) refl
+capped-times (suc c) n =
+    rw (suc-mul c (capped n), suc-mul c n) (capped-sum (c * capped n) (c * n) (capped n) n (capped-times c n) (capped-once n))
+
+-- what an instruction adds, by capped counts
+adds-capped : (f : ℕ → ℕ) (x : Instruction) → capped (adds (λ a. capped (f a)) x) ≡ capped (adds f x)
 unfolding adds
 adds-capped f (Const a v) = refl
 adds-capped f (Add a b c) = refl
@@ -31,8 +45,48 @@ adds-capped f (Less a b c) = refl
 adds-capped f (Load a b) = refl
 adds-capped f (Store a b) = refl
 adds-capped f (Skip a b) = refl
-adds-capped f (Spawn a b) = refl
+adds-capped f (Spawn a b) = capped-once (f a)
 adds-capped f (Wait a) = refl
+adds-capped f (Fan a b c) = capped-times c (f a)
+
+-- where the sum is no more than 129, capped counts add up to the same
+times-small : (c n : ℕ) → c * n ≤ 129 → c * capped n ≡ c * n
+times-small zero n h = rw (zero-mul (capped n), zero-mul n) refl
+times-small (suc c) n h =
+    let small : n ≤ 129 = omega (arith, suc-mul c n) in
+    let same : capped n ≡ n = omega arith in
+    ap (λ (m : ℕ). suc c * m) same
+
+adds-small : (f : ℕ → ℕ) (x : Instruction) → adds f x ≤ 129 → adds (λ a. capped (f a)) x ≡ adds f x
+unfolding adds
+adds-small f (Const a v) h = refl
+adds-small f (Add a b c) h = refl
+adds-small f (Sub a b c) h = refl
+adds-small f (Less a b c) h = refl
+adds-small f (Load a b) h = refl
+adds-small f (Store a b) h = refl
+adds-small f (Skip a b) h = refl
+adds-small f (Spawn a b) h = omega arith
+adds-small f (Wait a) h = refl
+adds-small f (Fan a b c) h = times-small c (f a) h
+
+pub total-capped : (f : ℕ → ℕ) (xs : List Instruction) → total (adds f) xs ≤ 129
+    → total (adds (λ a. capped (f a))) xs ≡ total (adds f) xs
+unfolding total
+total-capped f [] h = refl
+total-capped f (x ∷ xs) h =
+    let small : adds f x + total (adds f) xs ≤ 129 = h in
+    omega (arith, adds-small f x (omega arith), total-capped f xs (omega arith))
+
+-- a product of two bytes
+pub product : {a b c d : ℕ} → a ≡ b → c ≡ d → a * c ≡ b * d
+product p q = λ i. p i * q i
+
+pub product-small : (a b : ℕ) → a < 256 → b < 256 → a * b < 65536
+product-small a b h k =
+    let few : a ≤ 255 = omega arith in
+    let small : b ≤ 255 = omega arith in
+    omega (arith, le-trans (mul-le-mul-left a small) (mul-le-mul-right 255 few))
 
 -- one instruction more of a body's sum
 module _ (f : ℕ → ℕ) (b : List Instruction) (all : ℕ) where
@@ -44,11 +98,15 @@ module _ (f : ℕ → ℕ) (b : List Instruction) (all : ℕ) where
       → getD b i blank-instruction ≡ x → Summed n i → Summed (capped (n + adds (λ a. getD table a 1) x)) (i + 1)
   unfolding total
   sum-more table n i x known h e s =
-      let look : adds (λ a. getD table a 1) x ≡ capped (adds f x) =
-      adds-same (λ a. getD table a 1) (λ a. capped (f a)) x known ∙ adds-capped f x in
+      let v : ℕ = adds (λ a. getD table a 1) x in
+      let rest : ℕ = total (adds f) (drop (i + 1) b) in
+      let look : capped v ≡ capped (adds f x) =
+      ap capped (adds-same (λ a. getD table a 1) (λ a. capped (f a)) x known) ∙ adds-capped f x in
       let open-up : total (adds f) (drop i b) ≡ adds f x + total (adds f) (drop (i + 1) b) =
       (rw (add-one i, drop-cons b i blank-instruction h, e) refl) in
-      omega (arith, look, open-up, s)
+      let sums : n + total (adds f) (drop i b) ≡ n + adds f x + rest = omega (arith, open-up) in
+      capped-sum (capped (n + v)) (n + adds f x) rest rest (capped-once (n + v) ∙ capped-sum n n v (adds f x) refl look) refl ∙
+      sym (ap capped sums) ∙ s
 
   pub sum-whole : (n i : ℕ) → n ≤ 129 → i ≡ length b → Summed n i → n ≡ capped all
   unfolding total

@@ -1,5 +1,5 @@
 -- What an accepted list guarantees: the bounds of the format, and the law of task counts.
-use Prim.Native.Nat.{ℕ, zero, suc, _+_, _-_, _≤_, _<_}
+use Prim.Native.Nat.{ℕ, zero, suc, _+_, _-_, _*_, _≤_, _<_}
 use mathlib.Core.Path.{_≡_, refl, sym, ap, _∙_}
 use mathlib.Core.List.{List, [], _∷_}
 use mathlib.Core.Bool.{Bool, true, false, _&&_}
@@ -13,9 +13,9 @@ use borrow.Author.Tests.{leb-true, leb-false, ltb-true, le-leb}
 use Rattle.tasklist.specs.declared.Line.{Line}
 use Rattle.tasklist.specs.declared.Scope.{Scope}
 use Rattle.tasklist.specs.declared.Instruction.{Instruction}
-use Rattle.tasklist.specs.declared.Instruction.the-variants.{Const, Add, Sub, Less, Load, Store, Skip, Spawn, Wait}
+use Rattle.tasklist.specs.declared.Instruction.the-variants.{Const, Add, Sub, Less, Load, Store, Skip, Spawn, Wait, Fan}
 use Rattle.tasklist.specs.TaskList.{TaskList, blank-instruction, body-of, footprint-of, instruction-of, total, adds, count-body, count-from, counts, task-count}
-use Rattle.tasklist.specs.Decode.{line-ok, is-line, line, footprint, form, register, instruction-ok, kept, is-instruction, instruction, scope, body, accepted, decode}
+use Rattle.tasklist.specs.Decode.{line-ok, is-line, line, footprint, form, register, spawn-ok, instruction-ok, kept, is-instruction, instruction, scope, body, accepted, decode}
 use Rattle.tasklist.specs.Encode.{marked}
 use Rattle.tasklist.specs.Accepted.{blank-line, scope-of, Accepted}
 use Rattle.tasklist.proofs.TakenLaws.{both-true, only-if-some, field-taken}
@@ -56,8 +56,8 @@ pub record SpawnFits (at : Scope) (a b : ℕ) : Type 0 where
   pub a-body : a < at .bodies
   pub a-footprint : b < at .footprints
 
-spawn-fits : (at : Scope) (a b : ℕ) → instruction-ok at (Spawn a b) ≡ true → SpawnFits at a b
-unfolding instruction-ok
+spawn-fits : (at : Scope) (a b : ℕ) → spawn-ok at a b ≡ true → SpawnFits at a b
+unfolding spawn-ok
 spawn-fits at a b ok =
     let p = both-true (ltb (at .body) a && ltb a (at .bodies)) (ltb b (at .footprints)) ok in
     let q = both-true (ltb (at .body) a) (ltb a (at .bodies)) (p .0) in
@@ -66,6 +66,18 @@ spawn-fits at a b ok =
       a-body = ltb-true a (at .bodies) (q .1);
       a-footprint = ltb-true b (at .footprints) (p .1);
     }
+
+pub record FanFits (at : Scope) (a b c : ℕ) : Type 0 where
+  pub names : SpawnFits at a b
+  pub some-child : 1 ≤ c
+  pub few-children : c ≤ 16
+
+fan-fits : (at : Scope) (a b c : ℕ) → instruction-ok at (Fan a b c) ≡ true → FanFits at a b c
+unfolding instruction-ok
+fan-fits at a b c ok =
+    let p = both-true (spawn-ok at a b && leb 1 c) (leb c 16) ok in
+    let q = both-true (spawn-ok at a b) (leb 1 c) (p .0) in
+    record { names = spawn-fits at a b (q .0); some-child = leb-true 1 c (q .1); few-children = leb-true c 16 (p .1) }
 
 skip-fits : (at : Scope) (a b : ℕ) → instruction-ok at (Skip a b) ≡ true → at .place + 1 + b ≤ at .size
 unfolding instruction-ok
@@ -83,6 +95,7 @@ registers-of (Store a b) = a ∷ b ∷ []
 registers-of (Skip a b) = a ∷ []
 registers-of (Spawn a b) = []
 registers-of (Wait a) = a ∷ []
+registers-of (Fan a b c) = []
 
 no-register : (j : ℕ) → getD [] j 0 ≤ 3
 no-register j = omega arith
@@ -114,8 +127,9 @@ registers-fit at (Store a b) ok = two-registers a b ok
 registers-fit at (Skip a b) ok = one-register a [] (both-true (register a) (leb (at .place + 1 + b) (at .size)) ok .0) no-register
 registers-fit at (Spawn a b) ok = no-register
 registers-fit at (Wait a) ok = one-register a [] ok no-register
+registers-fit at (Fan a b c) ok = no-register
 
--- The law of counts: a spawn names a higher body, so a body's count looks only at the counts behind it
+-- The law of counts: a spawn or fan names a higher body, so a body's count looks only at the counts behind it
 counts-drop : (k s : ℕ) (bs : List (List Instruction)) → drop k (counts s bs) ≡ counts (s + k) (drop k bs)
 unfolding counts
 counts-drop zero s bs = rw (add-zero s)
@@ -141,6 +155,7 @@ adds-above f g at (Store a b) same ok = refl
 adds-above f g at (Skip a b) same ok = refl
 adds-above f g at (Spawn a b) same ok = same a (spawn-fits at a b ok .above)
 adds-above f g at (Wait a) same ok = refl
+adds-above f g at (Fan a b c) same ok = ap (λ (n : ℕ). c * n) (same a (fan-fits at a b c ok .names .above))
 
 total-same : {A : Type 0} (f g : A → ℕ) (l : List A) (d : A) → ((i : ℕ) → i < length l → f (getD l i d) ≡ g (getD l i d))
     → total f l ≡ total g l
@@ -225,7 +240,12 @@ module _ (l : TaskList) (ok : Accepted l) (s i : ℕ) (here : i < length (body-o
 
   -- a spawn names a body above s and a footprint, both of the list
   pub spawn-names : (a b : ℕ) → instruction-of l s i ≡ Spawn a b → SpawnFits (scope-of l s i) a b
+  unfolding instruction-ok
   spawn-names a b e = spawn-fits (scope-of l s i) a b (passes (Spawn a b) e)
+
+  -- a fan names them too, and has 1 to 16 children
+  pub fan-names : (a b c : ℕ) → instruction-of l s i ≡ Fan a b c → FanFits (scope-of l s i) a b c
+  fan-names a b c e = fan-fits (scope-of l s i) a b c (passes (Fan a b c) e)
 
   pub skip-ends : (a b : ℕ) → instruction-of l s i ≡ Skip a b → i + 1 + b ≤ length (body-of l s)
   skip-ends a b e = skip-fits (scope-of l s i) a b (passes (Skip a b) e)

@@ -6,7 +6,7 @@ use mathlib.Core.Option.{Option, none, some}
 use lib.ListN.{getD}
 use lib.Dec.{leb, ltb, eqb}
 use Rattle.tasklist.specs.declared.Instruction.{Instruction}
-use Rattle.tasklist.specs.declared.Instruction.the-variants.{Const, Add, Sub, Less, Load, Store, Skip, Spawn, Wait}
+use Rattle.tasklist.specs.declared.Instruction.the-variants.{Const, Add, Sub, Less, Load, Store, Skip, Spawn, Wait, Fan}
 use Rattle.tasklist.specs.declared.Line.{Line}
 use Rattle.tasklist.specs.declared.Scope.{Scope}
 use Rattle.tasklist.specs.declared.Header.{Header}
@@ -47,12 +47,13 @@ line locations = field 2 4 (is-line locations)
 unfoldable pub footprint : ℕ → List ℕ → Taken (List Line)
 footprint locations = row 0x46 8 4 (λ _ _. line locations)
 
--- the nine forms in the order of their codes, each with its own fields: "fields not listed are 0"
+-- the ten forms in the order of their codes, each with its own fields: "fields not listed are 0"
 unfoldable pub forms : ℕ → ℕ → ℕ → List (Option Instruction)
 forms a b c =
     some (Const a (b + 256 * c)) ∷ some (Add a b c) ∷ some (Sub a b c) ∷ some (Less a b c) ∷
     only-if (eqb c 0) (Load a b) ∷ only-if (eqb c 0) (Store a b) ∷ only-if (eqb c 0) (Skip a b) ∷
-    only-if (eqb c 0) (Spawn a b) ∷ only-if (eqb b 0 && eqb c 0) (Wait a) ∷ []
+    only-if (eqb c 0) (Spawn a b) ∷ only-if (eqb b 0 && eqb c 0) (Wait a) ∷
+    some (Fan a b c) ∷ []
 
 -- "Another code .. is a bad instruction"
 unfoldable pub form : ℕ → ℕ → ℕ → ℕ → Option Instruction
@@ -63,8 +64,11 @@ form code a b c = getD (forms a b c) code none
 unfoldable pub register : ℕ → Bool
 register r = ltb r 4
 
--- "A skip from place i with b ends at i + 1 + b, at most the sheet's count. A spawn names a footprint of the list and
--- a sheet of the list, higher than its own."
+-- "A spawn names a footprint of the list and a sheet of the list, higher than its own.", and so does a fan
+unfoldable pub spawn-ok : Scope → ℕ → ℕ → Bool
+spawn-ok at a b = ltb (at .body) a && ltb a (at .bodies) && ltb b (at .footprints)
+
+-- "A skip from place i with b ends at i + 1 + b, at most the sheet's count."; request 104: "c children (1 to 16)"
 unfoldable pub instruction-ok : Scope → Instruction → Bool
 instruction-ok at (Const a v) = register a
 instruction-ok at (Add a b c) = register a && register b && register c
@@ -73,8 +77,9 @@ instruction-ok at (Less a b c) = register a && register b && register c
 instruction-ok at (Load a b) = register a && register b
 instruction-ok at (Store a b) = register a && register b
 instruction-ok at (Skip a b) = register a && leb (at .place + 1 + b) (at .size)
-instruction-ok at (Spawn a b) = ltb (at .body) a && ltb a (at .bodies) && ltb b (at .footprints)
+instruction-ok at (Spawn a b) = spawn-ok at a b
 instruction-ok at (Wait a) = register a
+instruction-ok at (Fan a b c) = spawn-ok at a b && leb 1 c && leb c 16
 
 abbrev pub kept : {A : Type 0} → (A → Bool) → Option A → Option A
 kept ok none = none

@@ -1,12 +1,12 @@
 -- A job list as document 01 has it: a count of locations (entries), footprints of lines, and bodies (sheets) of
 -- instructions; and the task counts, count(s).
-use Prim.Native.Nat.{ℕ, suc, _+_, _-_}
+use Prim.Native.Nat.{ℕ, suc, _+_, _-_, _*_}
 use mathlib.Core.List.{List, [], _∷_}
 use mathlib.Core.Bool.{cond}
 use lib.Dec.{leb}
 use lib.ListN.{getD}
 use Rattle.tasklist.specs.declared.Instruction.{Instruction}
-use Rattle.tasklist.specs.declared.Instruction.the-variants.{Const, Add, Sub, Less, Load, Store, Skip, Spawn, Wait}
+use Rattle.tasklist.specs.declared.Instruction.the-variants.{Const, Add, Sub, Less, Load, Store, Skip, Spawn, Wait, Fan}
 use Rattle.tasklist.specs.declared.Line.{Line}
 
 -- "Footprints and sheets are numbered from 0": the number is the place in the list
@@ -35,7 +35,7 @@ unfoldable pub total : {A : Type 0} → (A → ℕ) → List A → ℕ
 total f [] = 0
 total f (a ∷ l) = f a + total f l
 
--- what one instruction adds to its body's count: "count(a) for each spawn"
+-- what one instruction adds to its body's count: "count(a) for each spawn"; request 104: "The fan adds c × count(a)"
 unfoldable pub adds : (ℕ → ℕ) → Instruction → ℕ
 adds count (Const a v) = 0
 adds count (Add a b c) = 0
@@ -46,6 +46,7 @@ adds count (Store a b) = 0
 adds count (Skip a b) = 0
 adds count (Spawn a b) = count a
 adds count (Wait a) = 0
+adds count (Fan a b c) = c * count a
 
 -- "count(s) is 1 plus count(a) for each spawn in sheet s, passed over or not"
 unfoldable pub count-body : (ℕ → ℕ) → List Instruction → ℕ

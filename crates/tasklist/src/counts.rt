@@ -1,7 +1,7 @@
 // Task counts, from the last body to the first, each capped at 129.
-ghost use Prim.Native.Nat.{ℕ, _+_, _≤_, min};
+ghost use Prim.Native.Nat.{ℕ, _+_, _≤_, _<_, min};
 ghost use mathlib.Core.Path.{_≡_};
-ghost use lib.ListN.{getD, take};
+ghost use lib.ListN.{length, getD, take};
 ghost use Rattle.tasklist.specs.TaskList.{adds, counts};
 ghost use Rattle.tasklist.specs.Tables.{rows, instructions, capped};
 use crate::Cell;
@@ -16,8 +16,8 @@ pub fn clamped(n: u8, most: usize) -> usize
 }
 
 // What one instruction adds to its body's count.
-pub fn added(instruction: Instruction, known: [u8; 32]) -> u8
-    ensures { λ r. ⌜ r ≡ adds (λ a. getD known a 1) instruction ⌝ }
+pub fn added(instruction: Instruction, known: &[u8; 32]) -> usize
+    ensures { λ r. ⌜ (length (now (known .entry)) ≡ 32 → r ≡ adds (λ a. getD (now (known .entry)) a 1) instruction) × (r < 65536) ⌝ }
 {
     match instruction {
         Instruction::Const {
@@ -48,24 +48,37 @@ pub fn added(instruction: Instruction, known: [u8; 32]) -> u8
             source: _,
         } => 0,
         Instruction::Skip { test: _, length: _ } => 0,
-        Instruction::Spawn { body, footprint: _ } => count_at(known, body as usize),
+        Instruction::Spawn { body, footprint: _ } => wide(count_at(known, body as usize)),
         Instruction::Wait { place: _ } => 0,
+        Instruction::Fan {
+            body,
+            footprint: _,
+            children,
+        } => wide(children) * wide(count_at(known, body as usize)),
     }
 }
 
+// A byte as an index.
+fn wide(n: u8) -> usize
+    ensures { λ r. ⌜ (r ≡ n) × (r < 256) ⌝ }
+{
+    n as usize
+}
+
 // The count of body `s`, 1 where there is none.
-pub fn count_at(known: [u8; 32], s: usize) -> u8
-    ensures { λ r. ⌜ r ≡ getD known s 1 ⌝ }
+pub fn count_at(known: &[u8; 32], s: usize) -> u8
+    ensures { λ r. ⌜ (length (now (known .entry)) ≡ 32 → r ≡ getD (now (known .entry)) s 1) ⌝ }
 {
     if s < 32 { known[s] } else { 1 }
 }
 
 // The sum, or 129 where it is above.
-fn capped_sum(a: u8, b: u8) -> u8
+fn capped_sum(a: u8, b: usize) -> u8
     ensures { λ r. ⌜ r ≡ capped (a + b) ⌝ }
 {
     if a < 129 {
-        if b <= 129 - a { a + b } else { 129 }
+        let room = 129 - a;
+        if b <= wide(room) { a + (b as u8) } else { 129 }
     } else {
         129
     }
@@ -86,7 +99,7 @@ pub fn task_counts(bodies: usize, sizes: [u8; 32], cells: [Cell; 1024]) -> [u8; 
         while i < size {
             let cell = cells[32 * s + i];
             let x = cell.instruction;
-            n = capped_sum(n, added(x, known));
+            n = capped_sum(n, added(x, &known));
             i += 1;
         }
         known[s] = n;

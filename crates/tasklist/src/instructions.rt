@@ -1,11 +1,11 @@
 // Instructions at a position of the bytes: their form, their test, and taking one.
 ghost use mathlib.Core.Path.{_≡_};
 ghost use mathlib.Core.Bool.{_&&_};
-ghost use lib.Dec.{leb, ltb, eqb};
+ghost use lib.Dec.{leb, eqb};
 ghost use Prim.Native.Nat.{_+_};
 ghost use lib.ListN.{drop};
 ghost use Rattle.tasklist.specs.Fields.{only-if};
-ghost use Rattle.tasklist.specs.Decode.{form, register, instruction-ok, instruction};
+ghost use Rattle.tasklist.specs.Decode.{form, register, spawn-ok, instruction-ok, instruction};
 ghost use Rattle.tasklist.specs.Positions.{formed, instruction-taken};
 use crate::Form;
 use crate::Instruction;
@@ -76,6 +76,11 @@ pub fn form_of(code: u8, a: u8, b: u8, c: u8) -> Form
         } else {
             Form::Unknown
         },
+        9 => Form::Known(Instruction::Fan {
+            body: a,
+            footprint: b,
+            children: c,
+        }),
         _ => Form::Unknown,
     }
 }
@@ -91,9 +96,9 @@ fn registers(a: u8, b: u8, c: u8) -> bool
     }
 }
 
-// Whether a spawn names a higher body and a footprint of the list.
+// Whether a spawn or fan names a higher body and a footprint of the list.
 fn spawns(at: Scope, body: usize, footprint: usize) -> bool
-    ensures { λ r. ⌜ r ≡ (ltb (at .body) body && ltb body (at .bodies) && ltb footprint (at .footprints)) ⌝ }
+    ensures { λ r. ⌜ r ≡ spawn-ok at body footprint ⌝ }
 {
     if at.body < body {
         if body < at.bodies {
@@ -104,6 +109,13 @@ fn spawns(at: Scope, body: usize, footprint: usize) -> bool
     } else {
         false
     }
+}
+
+// Whether a fan may have so many children.
+fn fans(children: u8) -> bool
+    ensures { λ r. ⌜ r ≡ (leb 1 children && leb children 16) ⌝ }
+{
+    if 1 <= children { children <= 16 } else { false }
 }
 
 // Whether a skip ends within its body.
@@ -149,6 +161,17 @@ pub fn ok_in(at: Scope, instruction: Instruction) -> bool
         }
         Instruction::Spawn { body, footprint } => spawns(at, body as usize, footprint as usize),
         Instruction::Wait { place } => registers(place, 0, 0),
+        Instruction::Fan {
+            body,
+            footprint,
+            children,
+        } => {
+            if spawns(at, body as usize, footprint as usize) {
+                fans(children)
+            } else {
+                false
+            }
+        }
     }
 }
 

@@ -1,26 +1,61 @@
 // Job lists: the reader of document 01's binary format, and the tables that a read list is kept in. The writer and what is
 // asked of the tables stand above, in `listing`; the runtime above both uses promises only.
 
-// One instruction of a task body (document 01: sheet), one case for each of the nine forms.
+// One instruction of a task body (document 01: sheet), one case for each of the ten forms.
 pub enum Instruction {
     // 0 const: register `target` := `value`.
-    Const { target: u8, value: u16 },
+    Const {
+        target: u8,
+        value: u16,
+    },
     // 1 add: `target` := `left` + `right`, modulo 2^32.
-    Add { target: u8, left: u8, right: u8 },
+    Add {
+        target: u8,
+        left: u8,
+        right: u8,
+    },
     // 2 sub: `target` := `left` - `right`, modulo 2^32.
-    Sub { target: u8, left: u8, right: u8 },
+    Sub {
+        target: u8,
+        left: u8,
+        right: u8,
+    },
     // 3 less: `target` := 1 if `left` < `right`, else 0.
-    Less { target: u8, left: u8, right: u8 },
+    Less {
+        target: u8,
+        left: u8,
+        right: u8,
+    },
     // 4 load: `target` := the location whose number is in register `place`.
-    Load { target: u8, place: u8 },
+    Load {
+        target: u8,
+        place: u8,
+    },
     // 5 store: the location whose number is in register `place` := register `source`.
-    Store { place: u8, source: u8 },
+    Store {
+        place: u8,
+        source: u8,
+    },
     // 6 skip: if register `test` is 0, pass over the next `length` instructions.
-    Skip { test: u8, length: u8 },
+    Skip {
+        test: u8,
+        length: u8,
+    },
     // 7 spawn: a task that runs `body` under `footprint`.
-    Spawn { body: u8, footprint: u8 },
+    Spawn {
+        body: u8,
+        footprint: u8,
+    },
     // 8 wait: for the location whose number is in register `place`.
-    Wait { place: u8 },
+    Wait {
+        place: u8,
+    },
+    // 9 fan (request 104): `children` tasks that run `body` under `footprint`, each with its own number in register 0.
+    Fan {
+        body: u8,
+        footprint: u8,
+        children: u8,
+    },
 }
 
 // One line of a footprint: kind 0 reads and 1 writes location `value`; 2 reads and 3 writes the location whose

@@ -73,6 +73,12 @@ enum-known-instruction-9 c = search needs
 put-four-requires-9 : tie.Need-put-four-requires-9
 put-four-requires-9 c κs = search needs
 
+enum-known-instruction-10 : tie.Need-enum-known-instruction-10
+enum-known-instruction-10 c = search needs
+
+put-four-requires-10 : tie.Need-put-four-requires-10
+put-four-requires-10 c κs = search needs
+
 same-length : tie.Need-same-length
 same-length c = search needs
 
@@ -172,6 +178,17 @@ returns-9 c =
     c .before .before .put-four9 .ensures ∙ ap (λ (x : Instruction). sets (now (args .out)) (args .at)
     (instruction-fields x)) (sym (instruction9 .given .1))
 
+same-length-10 : tie.Need-same-length-10
+same-length-10 c = search needs
+
+returns-10 : tie.Need-returns-10
+unfolding instruction-fields
+returns-10 c =
+    let args = c .before .before .before .before .before .before .before .before .args in
+    let instruction10 = c .before .before .before .before .before .instruction10 in
+    c .before .before .put-four10 .ensures ∙ ap (λ (x : Instruction). sets (now (args .out)) (args .at)
+    (instruction-fields x)) (sym (instruction10 .given .1))
+
 pub put-instruction-spec : {M : Type 1} → statement M
 put-instruction-spec =
     tie.close
@@ -196,6 +213,8 @@ put-instruction-spec =
     put-four-requires-8
     enum-known-instruction-9
     put-four-requires-9
+    enum-known-instruction-10
+    put-four-requires-10
     same-length
     returns
     same-length-2
@@ -213,4 +232,6 @@ put-instruction-spec =
     same-length-8
     returns-8
     same-length-9
-    returns-9)
+    returns-9
+    same-length-10
+    returns-10)

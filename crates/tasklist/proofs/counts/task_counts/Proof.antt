@@ -119,13 +119,13 @@ loop2-less c = search needs
 
 loop2-again : tie.Need-loop2-again Inv-loop2 μ-loop2 Inv-loop μ-loop
 loop2-again c =
-    let args = c .before .before .before .before .before .before .before .before .args in
-    let loop = c .before .before .before .before .before .before .before .loop in
-    let loop-test = c .before .before .before .before .before .before .loop-test in
-    let loop2 = c .before .before .before .before .loop2 in
+    let args = c .before .before .before .before .before .before .before .before .before .args in
+    let loop = c .before .before .before .before .before .before .before .before .loop in
+    let loop-test = c .before .before .before .before .before .before .before .loop-test in
+    let loop2 = c .before .before .before .before .before .loop2 in
     let q : c .capped-sum .result ≡ capped (loop2 .n + adds (λ (a : ℕ). getD (loop .known) a 1) (held (getD (args .t3)
     (32 * (loop .s - 1) + loop2 .i) blank-cell))) = c .capped-sum .ensures ∙ ap (λ (v : ℕ). capped (loop2 .n + v))
-    (c .before .added .ensures) in (
+    (c .before .added .ensures .0 (loop .inv .4)) in (
       search needs,
       loop2 .inv .1,
       loop2 .inv .2,

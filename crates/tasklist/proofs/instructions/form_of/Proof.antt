@@ -1,4 +1,4 @@
--- The form by the code: nine codes, and none for another.
+-- The form by the code: ten codes, and none for another.
 -- Assumes nothing.
 use Rattle.tasklist.specs.Decode.{form, forms}
 use Rattle.tasklist.proofs.InstructionLaws.{form-other, past}
@@ -76,13 +76,18 @@ unfolding form forms
 returns-10 c = rw (c .before .match .keys9, ne-eqb (c .before .before .args .b) 0 (c .if1 .left)) refl
 
 returns-11 : tie.Need-returns-11
-returns-11 c =
+unfolding form forms
+returns-11 c = rw (c .match .keys10) refl
+
+returns-12 : tie.Need-returns-12
+returns-12 c =
     let a = c .before .args in
-    sym (form-other (a .code) (a .a) (a .b) (a .c) (past 8 (a .code) (past 7 (a .code) (past 6 (a .code) (past 5
-    (a .code) (past 4 (a .code) (past 3 (a .code) (past 2 (a .code) (past 1 (a .code) (past 0 (a .code) zero-le
-    (c .match .rest .0 .0 .0 .0 .0 .0 .0 .0 .1)) (c .match .rest .0 .0 .0 .0 .0 .0 .0 .1))
-    (c .match .rest .0 .0 .0 .0 .0 .0 .1)) (c .match .rest .0 .0 .0 .0 .0 .1)) (c .match .rest .0 .0 .0 .0 .1))
-    (c .match .rest .0 .0 .0 .1)) (c .match .rest .0 .0 .1)) (c .match .rest .0 .1)) (c .match .rest .1)))
+    sym (form-other (a .code) (a .a) (a .b) (a .c) (past 9 (a .code) (past 8 (a .code) (past 7 (a .code) (past 6
+    (a .code) (past 5 (a .code) (past 4 (a .code) (past 3 (a .code) (past 2 (a .code) (past 1 (a .code) (past 0 (a .code)
+    zero-le (c .match .rest .0 .0 .0 .0 .0 .0 .0 .0 .0 .1)) (c .match .rest .0 .0 .0 .0 .0 .0 .0 .0 .1))
+    (c .match .rest .0 .0 .0 .0 .0 .0 .0 .1)) (c .match .rest .0 .0 .0 .0 .0 .0 .1)) (c .match .rest .0 .0 .0 .0 .0 .1))
+    (c .match .rest .0 .0 .0 .0 .1)) (c .match .rest .0 .0 .0 .1)) (c .match .rest .0 .0 .1)) (c .match .rest .0 .1))
+    (c .match .rest .1)))
 
 pub form-of-spec : {M : Type 1} → statement M
 form-of-spec =
@@ -105,4 +110,5 @@ form-of-spec =
     returns-8
     returns-9
     returns-10
-    returns-11)
+    returns-11
+    returns-12)

@@ -73,6 +73,21 @@ enum-known-instruction-9 c = search needs
 registers-requires-8 : tie.Need-registers-requires-8
 registers-requires-8 c κs = search needs
 
+enum-known-instruction-10 : tie.Need-enum-known-instruction-10
+enum-known-instruction-10 c = search needs
+
+cast-spawns-3 : tie.Need-cast-spawns-3
+cast-spawns-3 c = search needs
+
+cast-spawns-4 : tie.Need-cast-spawns-4
+cast-spawns-4 c = search needs
+
+spawns-requires-2 : tie.Need-spawns-requires-2
+spawns-requires-2 c κs = search needs
+
+fans-requires : tie.Need-fans-requires
+fans-requires c κs = search needs
+
 returns : tie.Need-returns
 unfolding instruction-ok
 returns c =
@@ -146,6 +161,22 @@ returns-10 c =
     c .registers8 .ensures ∙ registers-one (instruction9 .given .0 .0) ∙ (ap (instruction-ok (a .at)) (sym
     (instruction9 .given .1)))
 
+returns-11 : tie.Need-returns-11
+unfolding instruction-ok
+returns-11 c =
+    let a = c .before .before .before .before .before .before .args in
+    let instruction10 = c .before .before .before .before .instruction10 in
+    c .fans .ensures ∙ (rw (sym (c .before .before .spawns2 .ensures) ∙ c .before .if2 .taken) refl) ∙ (ap
+    (instruction-ok (a .at)) (sym (instruction10 .given .1)))
+
+returns-12 : tie.Need-returns-12
+unfolding instruction-ok
+returns-12 c =
+    let a = c .before .before .before .before .before .args in
+    let instruction10 = c .before .before .before .instruction10 in
+    (rw (sym (c .before .spawns2 .ensures) ∙ c .if2 .left) refl) ∙ (ap (instruction-ok (a .at)) (sym
+    (instruction10 .given .1)))
+
 pub ok-in-spec : {M : Type 1} → statement M
 ok-in-spec =
     tie.close
@@ -172,6 +203,11 @@ ok-in-spec =
     spawns-requires
     enum-known-instruction-9
     registers-requires-8
+    enum-known-instruction-10
+    cast-spawns-3
+    cast-spawns-4
+    spawns-requires-2
+    fans-requires
     returns
     returns-2
     returns-3
@@ -181,4 +217,6 @@ ok-in-spec =
     returns-7
     returns-8
     returns-9
-    returns-10)
+    returns-10
+    returns-11
+    returns-12)

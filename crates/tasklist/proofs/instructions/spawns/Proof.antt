@@ -1,11 +1,13 @@
 -- Each return by the tests that led there.
 -- Assumes nothing.
+use Rattle.tasklist.specs.Decode.{spawn-ok}
 use borrow.Author.Tests.{lt-ltb, le-ltb}
 use mathlib.Core.Path.{_≡_, refl, sym, ap, _∙_}
 use Rattle.tasklist.proofs.instructions.spawns.Statement.{statement}
 use Rattle.tasklist.proofs.instructions.spawns.Tie as tie
 
 returns : tie.Need-returns
+unfolding spawn-ok
 returns c =
     let a = c .before .before .before .before .before .args in
     rw (
@@ -15,6 +17,7 @@ returns c =
     ) refl
 
 returns-2 : tie.Need-returns-2
+unfolding spawn-ok
 returns-2 c =
     let a = c .before .before .before .before .args in
     rw (
@@ -24,6 +27,7 @@ returns-2 c =
     ) refl
 
 returns-3 : tie.Need-returns-3
+unfolding spawn-ok
 returns-3 c = let a = c .before .before .args in rw (le-ltb (a .at .body) (a .body) (c .if1 .left)) refl
 
 pub spawns-spec : {M : Type 1} → statement M

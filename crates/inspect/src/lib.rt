@@ -165,5 +165,5 @@ pub fn list_bytes(run: Run, out: &mut [u8]) -> Written
     ensures { λ r. ⌜ (written r ≡ write-answer (encode (list-of (run .tables))) (now (out .entry))) × (now (out .exit) ≡ write-places (encode (list-of (run .tables))) (now (out .entry))) ⌝ }
 {
     let list = run.tables;
-    listing::write(list, out)
+    writer::write(list, out)
 }

@@ -1,7 +1,6 @@
-// What is asked of a decoded job list: its counts, sizes, lines and instructions, and its own bytes again (the writer).
-// The reader and the tables stand beneath, in `tasklist`.
+// What is asked of a decoded job list: its counts, sizes, lines and instructions. The reader and the tables stand beneath, in
+// `tasklist`; the writer above, in `writer`.
 mod access;
-mod writer;
 
 pub use access::body_count;
 pub use access::body_size;
@@ -11,5 +10,3 @@ pub use access::instruction_at;
 pub use access::line_at;
 pub use access::row_size;
 pub use access::task_count;
-pub use writer::encoded_length;
-pub use writer::write;

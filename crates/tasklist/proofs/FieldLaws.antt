@@ -135,24 +135,14 @@ module _ (scope : Scope) (b : List ℕ) (at : ℕ) where
   unfolding instruction
   instruction-short h = field-short 4 5 (is-instruction scope) b at h
 
-  pub instruction-unknown : 4 ≤ length b - at → form-at ≡ none → instruction scope (drop at b) ≡ bad 5
+  pub instruction-bad : 4 ≤ length b - at → kept (instruction-ok scope) form-at ≡ none → instruction scope (drop at b) ≡ bad 5
   unfolding instruction is-instruction
-  instruction-unknown w h =
-      field-bad 4 5 (is-instruction scope) b at instruction-bytes w (bytes-four b at w) (ap (kept (instruction-ok scope)) h)
+  instruction-bad w h = field-bad 4 5 (is-instruction scope) b at instruction-bytes w (bytes-four b at w) h
 
-  pub instruction-bad : (x : Instruction) → 4 ≤ length b - at → form-at ≡ some x → instruction-ok scope x ≡ false
-      → instruction scope (drop at b) ≡ bad 5
-  unfolding instruction is-instruction
-  instruction-bad x w h k =
-      field-bad 4 5 (is-instruction scope) b at instruction-bytes w (bytes-four b at w)
-      (ap (kept (instruction-ok scope)) h ∙ ap (λ (t : Bool). only-if t x) k)
-
-  pub instruction-took : (x : Instruction) → 4 ≤ length b - at → form-at ≡ some x → instruction-ok scope x ≡ true
+  pub instruction-took : (x : Instruction) → 4 ≤ length b - at → kept (instruction-ok scope) form-at ≡ some x
       → instruction scope (drop at b) ≡ took x (drop (at + 4) b)
   unfolding instruction is-instruction
-  instruction-took x w h k =
-      field-took 4 5 (is-instruction scope) b at instruction-bytes x w (bytes-four b at w)
-      (ap (kept (instruction-ok scope)) h ∙ ap (λ (t : Bool). only-if t x) k)
+  instruction-took x w h = field-took 4 5 (is-instruction scope) b at instruction-bytes x w (bytes-four b at w) h
 
 -- what a callee's view of its answer is, once the answer's case is known
 pub told : {A B : Type 0} (view : A → B) {r s : A} {x : B} → view r ≡ x → r ≡ s → x ≡ view s

@@ -8,7 +8,8 @@ use native.Mathlib.Omega.{arith}
 use lib.ListN.{length, getD, List·getD-eq-default}
 use lib.Dec.{leb, ltb, eqb}
 use borrow.Author.Tests.{lt-leb, le-leb, lt-ltb, le-ltb, leb-true, leb-false}
-use Rattle.tasklist.specs.Decode.{line-limit, forms, form, register}
+use Rattle.tasklist.specs.Fields.{only-if}
+use Rattle.tasklist.specs.Decode.{line-limit, forms, form, register, kept}
 
 -- a number that is none of those below n + 1
 pub past : (n k : ℕ) → n ≤ k → (k ≡ n → ⊥) → n + 1 ≤ k
@@ -21,6 +22,11 @@ line-limit-other locations kind h = List·getD-eq-default (locations ∷ locatio
 pub form-other : (code a b c : ℕ) → 10 ≤ code → form code a b c ≡ none
 unfolding form forms
 form-other code a b c h = List·getD-eq-default (forms a b c) none h
+
+-- a test behind a test
+pub kept-only : {A : Type 0} (ok : A → Bool) (t : Bool) (a : A) → only-if (t && ok a) a ≡ kept ok (only-if t a)
+kept-only ok true a = refl
+kept-only ok false a = refl
 
 pub registers-one : (a : ℕ) → (register a && register 0 && register 0) ≡ register a
 unfolding register

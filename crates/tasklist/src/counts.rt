@@ -84,6 +84,17 @@ fn capped_sum(a: u8, b: usize) -> u8
     }
 }
 
+// A count with what one more instruction adds; most add nothing.
+fn counted(n: u8, instruction: Instruction, known: &[u8; 32]) -> u8
+    ensures { λ r. ⌜ (length (now (known .entry)) ≡ 32 → n ≤ 129 → r ≡ capped (n + adds (λ a. getD (now (known .entry)) a 1) instruction)) ⌝ }
+{
+    let more = added(instruction, known);
+    if more == 0 {
+        return n;
+    }
+    capped_sum(n, more)
+}
+
 // The counts of all bodies, 1 where there is none.
 pub fn task_counts(bodies: usize, sizes: [u8; 32], cells: [Cell; 1024]) -> [u8; 32]
     requires { ⌜ bodies ≤ 32 ⌝ }
@@ -99,7 +110,7 @@ pub fn task_counts(bodies: usize, sizes: [u8; 32], cells: [Cell; 1024]) -> [u8; 
         while i < size {
             let cell = cells[32 * s + i];
             let x = cell.instruction;
-            n = capped_sum(n, added(x, &known));
+            n = counted(n, x, &known);
             i += 1;
         }
         known[s] = n;

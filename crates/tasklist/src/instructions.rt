@@ -5,7 +5,7 @@ ghost use lib.Dec.{leb, eqb};
 ghost use Prim.Native.Nat.{_+_};
 ghost use lib.ListN.{drop};
 ghost use Rattle.tasklist.specs.Fields.{only-if};
-ghost use Rattle.tasklist.specs.Decode.{form, register, spawn-ok, instruction-ok, instruction};
+ghost use Rattle.tasklist.specs.Decode.{form, register, spawn-ok, instruction-ok, kept, instruction};
 ghost use Rattle.tasklist.specs.Positions.{formed, instruction-taken};
 use crate::Form;
 use crate::Instruction;
@@ -14,74 +14,25 @@ use crate::Refusal;
 use crate::Scope;
 use crate::fields::left;
 
-// An instruction of two fields, whose last byte is 0.
-fn if_zero(byte: u8, instruction: Instruction) -> Form
-    ensures { λ r. ⌜ formed r ≡ only-if (eqb byte 0) instruction ⌝ }
+// An instruction, where it passes its test.
+fn if_passed(ok: bool, instruction: Instruction) -> Form
+    ensures { λ r. ⌜ formed r ≡ only-if ok instruction ⌝ }
 {
-    if byte == 0 {
+    if ok {
         Form::Known(instruction)
     } else {
         Form::Unknown
     }
 }
 
-// The form that a code and its three bytes have.
-pub fn form_of(code: u8, a: u8, b: u8, c: u8) -> Form
-    ensures { λ r. ⌜ formed r ≡ form code a b c ⌝ }
+// An instruction whose last byte is 0, where it passes its test.
+fn if_zero(byte: u8, ok: bool, instruction: Instruction) -> Form
+    ensures { λ r. ⌜ formed r ≡ only-if (eqb byte 0 && ok) instruction ⌝ }
 {
-    match code {
-        0 => Form::Known(Instruction::Const {
-            target: a,
-            value: (b as u16) + 256 * (c as u16),
-        }),
-        1 => Form::Known(Instruction::Add {
-            target: a,
-            left: b,
-            right: c,
-        }),
-        2 => Form::Known(Instruction::Sub {
-            target: a,
-            left: b,
-            right: c,
-        }),
-        3 => Form::Known(Instruction::Less {
-            target: a,
-            left: b,
-            right: c,
-        }),
-        4 => if_zero(
-            c,
-            Instruction::Load {
-                target: a,
-                place: b,
-            },
-        ),
-        5 => if_zero(
-            c,
-            Instruction::Store {
-                place: a,
-                source: b,
-            },
-        ),
-        6 => if_zero(c, Instruction::Skip { test: a, length: b }),
-        7 => if_zero(
-            c,
-            Instruction::Spawn {
-                body: a,
-                footprint: b,
-            },
-        ),
-        8 => if b == 0 {
-            if_zero(c, Instruction::Wait { place: a })
-        } else {
-            Form::Unknown
-        },
-        9 => Form::Known(Instruction::Fan {
-            body: a,
-            footprint: b,
-            children: c,
-        }),
-        _ => Form::Unknown,
+    if byte == 0 {
+        if_passed(ok, instruction)
+    } else {
+        Form::Unknown
     }
 }
 
@@ -111,67 +62,114 @@ fn spawns(at: Scope, body: usize, footprint: usize) -> bool
     }
 }
 
-// Whether a fan may have so many children.
-fn fans(children: u8) -> bool
-    ensures { λ r. ⌜ r ≡ (leb 1 children && leb children 16) ⌝ }
+// Whether a fan names a higher body and a footprint of the list, and has 1 to 16 children.
+fn fans(at: Scope, body: usize, footprint: usize, children: u8) -> bool
+    ensures { λ r. ⌜ r ≡ (spawn-ok at body footprint && leb 1 children && leb children 16) ⌝ }
 {
-    if 1 <= children { children <= 16 } else { false }
-}
-
-// Whether a skip ends within its body.
-fn skips(at: Scope, length: usize) -> bool
-    ensures { λ r. ⌜ r ≡ leb (at .place + 1 + length) (at .size) ⌝ }
-{
-    if at.place < at.size {
-        length <= at.size - at.place - 1
+    if spawns(at, body, footprint) {
+        if 1 <= children { children <= 16 } else { false }
     } else {
         false
     }
 }
 
-// Whether an instruction passes its test in its place.
-pub fn ok_in(at: Scope, instruction: Instruction) -> bool
-    ensures { λ r. ⌜ r ≡ instruction-ok at instruction ⌝ }
+// Whether a skip tests a register and ends within its body.
+fn skips(at: Scope, test: u8, length: usize) -> bool
+    ensures { λ r. ⌜ r ≡ (register test && leb (at .place + 1 + length) (at .size)) ⌝ }
 {
-    match instruction {
-        Instruction::Const { target, value: _ } => registers(target, 0, 0),
-        Instruction::Add {
-            target,
-            left,
-            right,
-        } => registers(target, left, right),
-        Instruction::Sub {
-            target,
-            left,
-            right,
-        } => registers(target, left, right),
-        Instruction::Less {
-            target,
-            left,
-            right,
-        } => registers(target, left, right),
-        Instruction::Load { target, place } => registers(target, place, 0),
-        Instruction::Store { place, source } => registers(place, source, 0),
-        Instruction::Skip { test, length } => {
-            if registers(test, 0, 0) {
-                skips(at, length as usize)
+    if test < 4 {
+        if at.place < at.size {
+            length <= at.size - at.place - 1
+        } else {
+            false
+        }
+    } else {
+        false
+    }
+}
+
+// The instruction that a code and its three bytes say, where it passes its test in its place: by the code, form and test in
+// one match.
+fn instruction_in(at: Scope, code: u8, a: u8, b: u8, c: u8) -> Form
+    ensures { λ r. ⌜ formed r ≡ kept (instruction-ok at) (form code a b c) ⌝ }
+{
+    match code {
+        0 => if_passed(
+            registers(a, 0, 0),
+            Instruction::Const {
+                target: a,
+                value: (b as u16) + 256 * (c as u16),
+            },
+        ),
+        1 => if_passed(
+            registers(a, b, c),
+            Instruction::Add {
+                target: a,
+                left: b,
+                right: c,
+            },
+        ),
+        2 => if_passed(
+            registers(a, b, c),
+            Instruction::Sub {
+                target: a,
+                left: b,
+                right: c,
+            },
+        ),
+        3 => if_passed(
+            registers(a, b, c),
+            Instruction::Less {
+                target: a,
+                left: b,
+                right: c,
+            },
+        ),
+        4 => if_zero(
+            c,
+            registers(a, b, 0),
+            Instruction::Load {
+                target: a,
+                place: b,
+            },
+        ),
+        5 => if_zero(
+            c,
+            registers(a, b, 0),
+            Instruction::Store {
+                place: a,
+                source: b,
+            },
+        ),
+        6 => if_zero(
+            c,
+            skips(at, a, b as usize),
+            Instruction::Skip { test: a, length: b },
+        ),
+        7 => if_zero(
+            c,
+            spawns(at, a as usize, b as usize),
+            Instruction::Spawn {
+                body: a,
+                footprint: b,
+            },
+        ),
+        8 => {
+            if b == 0 {
+                if_zero(c, registers(a, 0, 0), Instruction::Wait { place: a })
             } else {
-                false
+                Form::Unknown
             }
         }
-        Instruction::Spawn { body, footprint } => spawns(at, body as usize, footprint as usize),
-        Instruction::Wait { place } => registers(place, 0, 0),
-        Instruction::Fan {
-            body,
-            footprint,
-            children,
-        } => {
-            if spawns(at, body as usize, footprint as usize) {
-                fans(children)
-            } else {
-                false
-            }
-        }
+        9 => if_passed(
+            fans(at, a as usize, b as usize, c),
+            Instruction::Fan {
+                body: a,
+                footprint: b,
+                children: c,
+            },
+        ),
+        _ => Form::Unknown,
     }
 }
 
@@ -182,14 +180,14 @@ pub fn take_instruction(bytes: &[u8], at: usize, scope: Scope) -> InstructionTak
     if left(bytes, at) < 4 {
         return InstructionTaken::Bad(Refusal::Incomplete);
     }
-    match form_of(bytes[at], bytes[at + 1], bytes[at + 2], bytes[at + 3]) {
+    match instruction_in(
+        scope,
+        bytes[at],
+        bytes[at + 1],
+        bytes[at + 2],
+        bytes[at + 3],
+    ) {
         Form::Unknown => InstructionTaken::Bad(Refusal::Body),
-        Form::Known(x) => {
-            if ok_in(scope, x) {
-                InstructionTaken::Took(x, at + 4)
-            } else {
-                InstructionTaken::Bad(Refusal::Body)
-            }
-        }
+        Form::Known(x) => InstructionTaken::Took(x, at + 4),
     }
 }

@@ -156,7 +156,7 @@ pub enum InstructionTaken {
     Took(Instruction, usize),
 }
 
-// What four bytes say, before registers and targets are tested.
+// What four bytes say, where they are an instruction that passes its test.
 pub enum Form {
     Unknown,
     Known(Instruction),

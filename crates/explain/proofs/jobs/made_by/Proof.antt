@@ -1,6 +1,6 @@
--- By the instruction's case: a spawn makes a task, any other leaves the one that stands.
+-- By the instruction's case: a spawn makes a task, a fan several, any other leaves the one that stands.
 -- Assumes nothing.
-use mathlib.Core.Path.{sym, ap}
+use mathlib.Core.Path.{sym, ap, _∙_}
 use Rattle.explain.specs.Jobs.{made}
 use borrow.Author.Needs.{needs}
 use Rattle.explain.proofs.jobs.made_by.Statement.{statement}
@@ -30,50 +30,71 @@ enum-told-7 c = search needs
 enum-known-instruction : tie.Need-enum-known-instruction
 enum-known-instruction c = search needs
 
-cast-t9 : tie.Need-cast-t9
-cast-t9 c = search needs
+cast-t14 : tie.Need-cast-t14
+cast-t14 c = search needs
 
-cast-t10 : tie.Need-cast-t10
-cast-t10 c = search needs
+cast-t15 : tie.Need-cast-t15
+cast-t15 c = search needs
 
 enum-told-8 : tie.Need-enum-told-8
 enum-told-8 c = search needs
 
+enum-known-instruction-2 : tie.Need-enum-known-instruction-2
+enum-known-instruction-2 c = search needs
+
+cast-t16 : tie.Need-cast-t16
+cast-t16 c = search needs
+
+cast-t17 : tie.Need-cast-t17
+cast-t17 c = search needs
+
+cast-t18 : tie.Need-cast-t18
+cast-t18 c = search needs
+
+fanned-to-requires : tie.Need-fanned-to-requires
+fanned-to-requires c κs = search needs
+
 returns : tie.Need-returns
 unfolding made
-returns c = let a = c .before .before .args in ap (made (a .job) (a .place) (a .number) (a .depth)) (sym (c .enum-told .given .1))
+returns c = let a = c .before .before .args in ap (made (a .tables) (a .job) (a .place) (a .number) (a .k) (a .depth)) (sym (c .enum-told .given .1))
 
 returns-2 : tie.Need-returns-2
 unfolding made
-returns-2 c = let a = c .before .before .args in ap (made (a .job) (a .place) (a .number) (a .depth)) (sym (c .enum-told2 .given .1))
+returns-2 c = let a = c .before .before .args in ap (made (a .tables) (a .job) (a .place) (a .number) (a .k) (a .depth)) (sym (c .enum-told2 .given .1))
 
 returns-3 : tie.Need-returns-3
 unfolding made
-returns-3 c = let a = c .before .before .args in ap (made (a .job) (a .place) (a .number) (a .depth)) (sym (c .enum-told3 .given .1))
+returns-3 c = let a = c .before .before .args in ap (made (a .tables) (a .job) (a .place) (a .number) (a .k) (a .depth)) (sym (c .enum-told3 .given .1))
 
 returns-4 : tie.Need-returns-4
 unfolding made
-returns-4 c = let a = c .before .before .args in ap (made (a .job) (a .place) (a .number) (a .depth)) (sym (c .enum-told4 .given .1))
+returns-4 c = let a = c .before .before .args in ap (made (a .tables) (a .job) (a .place) (a .number) (a .k) (a .depth)) (sym (c .enum-told4 .given .1))
 
 returns-5 : tie.Need-returns-5
 unfolding made
-returns-5 c = let a = c .before .before .args in ap (made (a .job) (a .place) (a .number) (a .depth)) (sym (c .enum-told5 .given .1))
+returns-5 c = let a = c .before .before .args in ap (made (a .tables) (a .job) (a .place) (a .number) (a .k) (a .depth)) (sym (c .enum-told5 .given .1))
 
 returns-6 : tie.Need-returns-6
 unfolding made
-returns-6 c = let a = c .before .before .args in ap (made (a .job) (a .place) (a .number) (a .depth)) (sym (c .enum-told6 .given .1))
+returns-6 c = let a = c .before .before .args in ap (made (a .tables) (a .job) (a .place) (a .number) (a .k) (a .depth)) (sym (c .enum-told6 .given .1))
 
 returns-7 : tie.Need-returns-7
 unfolding made
-returns-7 c = let a = c .before .before .args in ap (made (a .job) (a .place) (a .number) (a .depth)) (sym (c .enum-told7 .given .1))
+returns-7 c = let a = c .before .before .args in ap (made (a .tables) (a .job) (a .place) (a .number) (a .k) (a .depth)) (sym (c .enum-told7 .given .1))
 
 returns-8 : tie.Need-returns-8
 unfolding made
-returns-8 c = let a = c .before .before .before .args in ap (made (a .job) (a .place) (a .number) (a .depth)) (sym (c .before .instruction .given .1))
+returns-8 c = let a = c .before .before .before .args in ap (made (a .tables) (a .job) (a .place) (a .number) (a .k) (a .depth)) (sym (c .before .instruction .given .1))
 
 returns-9 : tie.Need-returns-9
 unfolding made
-returns-9 c = let a = c .before .before .args in ap (made (a .job) (a .place) (a .number) (a .depth)) (sym (c .enum-told8 .given .1))
+returns-9 c = let a = c .before .before .args in ap (made (a .tables) (a .job) (a .place) (a .number) (a .k) (a .depth)) (sym (c .enum-told8 .given .1))
+
+returns-10 : tie.Need-returns-10
+unfolding made
+returns-10 c =
+    let a = c .before .before .before .before .args in
+    c .fanned-to .ensures ∙ ap (made (a .tables) (a .job) (a .place) (a .number) (a .k) (a .depth)) (sym (c .before .before .instruction2 .given .1))
 
 pub made-by-spec : {M : Type 1} → statement M
 made-by-spec =
@@ -87,9 +108,14 @@ made-by-spec =
     enum-told-6
     enum-told-7
     enum-known-instruction
-    cast-t9
-    cast-t10
+    cast-t14
+    cast-t15
     enum-told-8
+    enum-known-instruction-2
+    cast-t16
+    cast-t17
+    cast-t18
+    fanned-to-requires
     returns
     returns-2
     returns-3
@@ -98,4 +124,5 @@ made-by-spec =
     returns-6
     returns-7
     returns-8
-    returns-9)
+    returns-9
+    returns-10)

@@ -105,11 +105,8 @@ mul-cell-2 c = search needs
 array-copy-out-cell : tie.Need-array-copy-out-cell Inv-loop2 μ-loop2 Inv-loop μ-loop
 array-copy-out-cell c = search needs
 
-added-requires : tie.Need-added-requires Inv-loop2 μ-loop2 Inv-loop μ-loop
-added-requires c κs = tt
-
-capped-sum-requires : tie.Need-capped-sum-requires Inv-loop2 μ-loop2 Inv-loop μ-loop
-capped-sum-requires c κs = tt
+counted-requires : tie.Need-counted-requires Inv-loop2 μ-loop2 Inv-loop μ-loop
+counted-requires c κs = tt
 
 add-i : tie.Need-add-i Inv-loop2 μ-loop2 Inv-loop μ-loop
 add-i c = search needs
@@ -119,13 +116,12 @@ loop2-less c = search needs
 
 loop2-again : tie.Need-loop2-again Inv-loop2 μ-loop2 Inv-loop μ-loop
 loop2-again c =
-    let args = c .before .before .before .before .before .before .before .before .before .args in
-    let loop = c .before .before .before .before .before .before .before .before .loop in
-    let loop-test = c .before .before .before .before .before .before .before .loop-test in
-    let loop2 = c .before .before .before .before .before .loop2 in
-    let q : c .capped-sum .result ≡ capped (loop2 .n + adds (λ (a : ℕ). getD (loop .known) a 1) (held (getD (args .t3)
-    (32 * (loop .s - 1) + loop2 .i) blank-cell))) = c .capped-sum .ensures ∙ ap (λ (v : ℕ). capped (loop2 .n + v))
-    (c .before .added .ensures .0 (loop .inv .4)) in (
+    let args = c .before .before .before .before .before .before .before .before .args in
+    let loop = c .before .before .before .before .before .before .before .loop in
+    let loop-test = c .before .before .before .before .before .before .loop-test in
+    let loop2 = c .before .before .before .before .loop2 in
+    let q : c .counted .result ≡ capped (loop2 .n + adds (λ (a : ℕ). getD (loop .known) a 1) (held (getD (args .t3)
+    (32 * (loop .s - 1) + loop2 .i) blank-cell))) = c .counted .ensures (loop .inv .4) (loop2 .inv .3) in (
       search needs,
       loop2 .inv .1,
       loop2 .inv .2,
@@ -193,8 +189,7 @@ task-counts-spec =
     add-cell
     mul-cell-2
     array-copy-out-cell
-    added-requires
-    capped-sum-requires
+    counted-requires
     add-i
     loop2-less
     loop2-again

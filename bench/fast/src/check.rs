@@ -16,8 +16,9 @@ impl Index {
     };
 }
 
-/// The bits of an instruction (code least) that must be 0, by its code: registers are 0 to 3, "fields not listed are 0".
-const ZEROS: [u32; 9] = [
+/// The bits of an instruction (code least) that must be 0, by its code: registers are 0 to 3, "fields not listed are 0"; a
+/// fan has up to 16 children.
+const ZEROS: [u32; 10] = [
     0x0000_FC00,
     0xFCFC_FC00,
     0xFCFC_FC00,
@@ -27,6 +28,7 @@ const ZEROS: [u32; 9] = [
     0xFF00_FC00,
     0xFF00_0000,
     0xFFFF_FC00,
+    0xE000_0000,
 ];
 
 pub fn word(field: &[u8]) -> u32 {
@@ -74,8 +76,8 @@ fn head(list: &[u8]) -> Result<[u8; 3], u32> {
     Ok(numbers)
 }
 
-/// Reads a list in one pass. The tasks of sheet s are `made[s]`: the spawns of a sheet go to higher ones, so that each
-/// sheet's number is known when it is reached, and their sum is count(0).
+/// Reads a list in one pass. The tasks of sheet s are `made[s]`: the spawns and fans of a sheet go to higher ones, so that
+/// each sheet's number is known when it is reached, and their sum is count(0).
 #[inline(always)]
 pub fn read(list: &[u8], mut keep: impl FnMut(bool, usize, u16, u8)) -> Result<u32, u32> {
     let [locations, footprints, sheets] = head(list)?;
@@ -108,19 +110,23 @@ pub fn read(list: &[u8], mut keep: impl FnMut(bool, usize, u16, u8)) -> Result<u
         for (i, field) in body.chunks_exact(4).enumerate() {
             let w = word(field);
             let code = (w & 0xFF) as usize;
-            if code > 8 || w & ZEROS[code] != 0 {
+            if code > 9 || w & ZEROS[code] != 0 {
                 return Err(5);
             }
             let b = (w >> 16 & 0xFF) as usize;
             if code == 6 && i + 1 + b > count {
                 return Err(5);
             }
-            if code == 7 {
+            if code == 7 || code == 9 {
                 let a = (w >> 8 & 0xFF) as usize;
+                let children = if code == 7 { 1 } else { w >> 24 };
                 if a <= s || a >= sheets as usize || b >= footprints as usize {
                     return Err(5);
                 }
-                made[a] = (made[a] + own).min(129);
+                if children == 0 || children > 16 {
+                    return Err(5);
+                }
+                made[a] = (made[a] + own * children).min(129);
             }
         }
         if body.len() < 4 * count {

@@ -22,8 +22,8 @@ pub struct Run {
     pub weight: u32,
 }
 
-/// "codes 0 to 8: 1, 1, 1, 1, 3, 4, 1, 8, 1"
-const WEIGHTS: [u32; 9] = [1, 1, 1, 1, 3, 4, 1, 8, 1];
+/// "codes 0 to 8: 1, 1, 1, 1, 3, 4, 1, 8, 1"; a fan's for each child
+const WEIGHTS: [u32; 10] = [1, 1, 1, 1, 3, 4, 1, 8, 1, 8];
 
 const NEVER: Record = Record {
     state: 0,
@@ -77,7 +77,7 @@ impl Job<'_> {
         word(&self.list[at..at + 4])
     }
 
-    /// "count(s) is 1 plus count(a) for each spawn in sheet s, passed over or not."
+    /// "count(s) is 1 plus count(a) for each spawn in sheet s, passed over or not."; "The fan adds c × count(a)".
     fn count(&mut self) {
         for s in (0..self.index.sheet_count).rev() {
             let mut count = 1u32;
@@ -90,10 +90,11 @@ impl Job<'_> {
 
     /// What an instruction adds to the numbers of its sheet.
     fn adds(&self, w: u32) -> u32 {
-        if w & 0xFF == 7 {
-            self.counts[(w >> 8 & 0xFF) as usize & 31]
-        } else {
-            0
+        let count = self.counts[(w >> 8 & 0xFF) as usize & 31];
+        match w & 0xFF {
+            7 => count,
+            9 => (w >> 24) * count,
+            _ => 0,
         }
     }
 
@@ -139,6 +140,30 @@ impl Job<'_> {
         0
     }
 
+    /// "Child i has R0 = i, and its footprint is found with that R0"; the fault, with no child made, or else "the hand run
+    /// completes them from child 0 on".
+    #[inline(never)]
+    fn fan(&self, run: &mut Run, task: usize, first: usize, w: u32, given: [u32; 4]) -> u8 {
+        let [_, a, b, c] = w.to_le_bytes();
+        let sheet = a as usize & 31;
+        let mut registers = given;
+        let mut modes = [[0; 64]; 16];
+        for (i, modes) in modes.iter_mut().enumerate().take(c as usize) {
+            registers[0] = i as u32;
+            let fault = self.granted(&run.modes[task & 127], &registers, b as usize, modes);
+            if fault != 0 {
+                return fault;
+            }
+        }
+        for (i, modes) in modes.iter().enumerate().take(c as usize) {
+            registers[0] = i as u32;
+            let child = first + i * self.counts[sheet] as usize;
+            run.modes[child & 127] = *modes;
+            self.whole(run, child, sheet, registers);
+        }
+        0
+    }
+
     /// "its start, its steps until it is at its end, and at each spawn the child is run whole before the next step; last
     /// its end call"
     fn whole(&self, run: &mut Run, task: usize, sheet: usize, given: [u32; 4]) {
@@ -154,7 +179,7 @@ impl Job<'_> {
             let (ra, rb) = (registers[a as usize & 3], registers[b as usize & 3]);
             let rc = registers[c as usize & 3];
             done += 1;
-            weight += WEIGHTS[code as usize % 9];
+            weight += WEIGHTS[code as usize % 10] * if code == 9 { c as u32 } else { 1 };
             let mut passed = 0;
             match code {
                 0 => registers[a as usize & 3] = b as u32 + 256 * c as u32,
@@ -183,6 +208,7 @@ impl Job<'_> {
                         self.whole(run, next as usize, a as usize & 31, registers);
                     }
                 }
+                9 => fault = self.fan(run, task, next as usize, w, registers),
                 _ => fault = self.fault(&run.modes[task], ra, false),
             }
             if fault != 0 {

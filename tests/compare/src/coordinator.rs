@@ -12,8 +12,8 @@ use second::named::longest_list;
 use second::rng::Rng;
 use second::{empty_list, encode, files_transcript};
 
-use crate::refusal_words;
 use crate::shrink::{less_entries, shrink, smaller_bytes, smaller_lists};
+use crate::{has_fan, refusal_words};
 
 /// What stands under a file's name.
 #[derive(Clone, Debug, PartialEq, Eq)]
@@ -275,6 +275,8 @@ pub struct Met {
     pub unreadable: u64,
     /// With a jobs.bin of no bytes.
     pub empty: u64,
+    /// Opened with a list in which a fan stands.
+    pub fans: u64,
     pub in_pieces: u64,
     pub half_calls: u64,
     /// Lines of calls, and those among them that are not 0.
@@ -300,6 +302,7 @@ impl Met {
             self.refused[refusal] += 1;
             return;
         }
+        self.fans += files[0].is_some_and(has_fan) as u64;
         let calls = case.input.len().div_ceil(2);
         self.calls += calls as u64;
         let answers: Vec<&str> = text.lines().take(calls).collect();
@@ -313,10 +316,11 @@ impl Met {
 
     pub fn words(&self) -> String {
         format!(
-            "{} opened, {} to the end, {} calls with {} refused ones (19 x {}, 20 x {}), {} half \
+            "{} opened, {} with fans, {} to the end, {} calls with {} refused ones (19 x {}, 20 x {}), {} half \
              calls, {} inputs in pieces, {} with an unreadable file, {} with an empty list; opens \
              refused: {}",
             self.transcripts as u64 - self.refused.iter().sum::<u64>(),
+            self.fans,
             self.to_the_end,
             self.calls,
             self.refused_calls,
@@ -445,6 +449,7 @@ mod tests {
             met.in_pieces,
             met.half_calls,
             met.to_the_end,
+            met.fans,
             met.held[0],
             met.held[1],
         ] {

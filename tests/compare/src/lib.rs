@@ -16,6 +16,15 @@ pub fn refusal_words(counts: &[u64]) -> String {
     words.join(", ")
 }
 
+/// The bytes are an accepted list in which a fan stands.
+pub fn has_fan(bytes: &[u8]) -> bool {
+    let Ok(list) = second::decode(bytes) else {
+        return false;
+    };
+    let mut instructions = list.bodies.iter().flatten();
+    instructions.any(|instruction| matches!(instruction, second::Instruction::Fan { .. }))
+}
+
 #[cfg(test)]
 mod tests {
     use second::case_file::{cases_output, encode_cases};

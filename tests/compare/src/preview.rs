@@ -3,14 +3,14 @@
 use std::time::Duration;
 
 use second::cases::{alterations, damaged_list, hex, library_bytes, list_case, random_library};
-use second::cases::{random_list, too_many_tasks, EXAMPLE_P};
+use second::cases::{fan_tree, random_list, too_many_tasks, EXAMPLE_P};
 use second::list::decode_records;
-use second::named::{deepest_list, longest_list};
+use second::named::{deepest_list, fan_of_strengths, longest_list};
 use second::rng::Rng;
 use second::{encode, preview_check, preview_hand_run};
 
-use crate::refusal_words;
 use crate::shrink::{less_entries, shrink, smaller_bytes, smaller_lists};
+use crate::{has_fan, refusal_words};
 
 /// preview_check(list, list_len)
 pub type Check = unsafe extern "C" fn(*const u8, usize) -> u32;
@@ -201,17 +201,27 @@ fn all_alterations_of_p() -> impl Iterator<Item = Lent> {
     })
 }
 
+/// A list of one fan with so many children, good or bad.
+fn one_fan(children: u8) -> Vec<u8> {
+    let mut bytes = vec![0x4A, 0x48, 1, 1, 2, 0x4A, 0x46, 0];
+    bytes.extend([0x4A, 0x42, 1, 9, 1, 0, children, 0x4A, 0x42, 0]);
+    bytes
+}
+
 /// Lists without end: some for each answer, empty ones among them, then P altered in every way, then
 /// some lists cut and altered at each place, the longest among them, then random ones, valid and
 /// damaged.
 pub fn lists(seed: u64) -> impl Iterator<Item = Lent> {
     let mut rng = Rng::new(seed);
     let mut lists = Vec::new();
-    for i in 0..240 {
-        lists.push(whole(match i % 12 {
-            0 => rng.pick(&[&EXAMPLE_P[..], &deepest_list()]).to_vec(),
+    for i in 0..260 {
+        lists.push(whole(match i % 13 {
+            0 => rng
+                .pick(&[&EXAMPLE_P[..], &deepest_list(), &fan_of_strengths()])
+                .to_vec(),
             refusal @ 1..=7 => damaged_list(&mut rng, refusal),
             8 => Vec::new(),
+            9 => one_fan(rng.pick(&[0, 1, 16, 17, 255])),
             _ => encode(&random_list(&mut rng)),
         }));
     }
@@ -219,6 +229,8 @@ pub fn lists(seed: u64) -> impl Iterator<Item = Lent> {
         EXAMPLE_P.to_vec(),
         deepest_list(),
         longest_list(),
+        fan_of_strengths(),
+        encode(&fan_tree(15)),
         encode(&too_many_tasks(&mut rng)),
     ];
     while bases.len() < 24 {
@@ -293,6 +305,8 @@ pub struct Met {
     pub lists: usize,
     /// Lists of no bytes that the hand run accepts.
     pub empty: u64,
+    /// Lists with a fan that the hand run accepts.
+    pub fans: u64,
     pub check: [u64; 18],
     pub hand_run: [u64; 18],
     /// On how many the two differ, and the smallest case found.
@@ -304,6 +318,7 @@ impl Met {
     fn count(&mut self, case: &Case, answers: &Answers) {
         self.lists += 1;
         self.empty += (case.list.bytes.is_empty() && answers.hand_run == 0) as u64;
+        self.fans += (answers.hand_run == 0 && has_fan(&case.list.bytes)) as u64;
         self.check[answers.check.saturating_sub(128) as usize] += 1;
         self.hand_run[answers.hand_run.saturating_sub(128) as usize] += 1;
     }
@@ -321,11 +336,13 @@ impl Met {
 
     pub fn words(&self) -> String {
         format!(
-            "check accepts {}, refuses {}; the hand run accepts {} ({} of no bytes), refuses {}",
+            "check accepts {}, refuses {}; the hand run accepts {} ({} of no bytes, {} with fans), \
+             refuses {}",
             self.check[0],
             refusal_words_of(&self.check),
             self.hand_run[0],
             self.empty,
+            self.fans,
             refusal_words_of(&self.hand_run)
         )
     }
@@ -491,6 +508,24 @@ mod tests {
         }
     }
 
+    unsafe extern "C" fn check_refuses_fans(list: *const u8, list_len: usize) -> u32 {
+        if has_fan(slice(list, list_len)) {
+            return 133;
+        }
+        check(list, list_len)
+    }
+
+    /// A fan of 17 children is taken for one of 16.
+    unsafe extern "C" fn check_accepts_17_children(list: *const u8, list_len: usize) -> u32 {
+        let mut bytes = slice(list, list_len).to_vec();
+        for place in 3..bytes.len() {
+            if bytes[place] == 17 && bytes[place - 3] == 9 {
+                bytes[place] = 16;
+            }
+        }
+        preview_check(&bytes)
+    }
+
     unsafe extern "C" fn check_writes(list: *const u8, list_len: usize) -> u32 {
         if list_len > 30 {
             *(list as *mut u8).add(20) ^= 1;
@@ -561,6 +596,7 @@ mod tests {
         assert_eq!((met.lists, met.different), (3000, 0));
         assert!(met.missing().is_empty(), "{}", met.words());
         assert!(met.check[0] > 100 && met.hand_run[0] > 100 && met.empty > 10);
+        assert!(met.fans > 20, "{}", met.words());
     }
 
     #[test]
@@ -570,6 +606,12 @@ mod tests {
         for (functions, most, words) in [
             (with_check(check_accepts_129_jobs), 100, "check 128, "),
             (with_check(check_refuses_no_bytes), 0, "second: check 1, "),
+            (with_check(check_refuses_fans), 18, "preview: check 133, "),
+            (
+                with_check(check_accepts_17_children),
+                18,
+                "second: check 133, ",
+            ),
             (with_check(check_writes), 31, "spoiled: list of check"),
             (
                 with_hand_run(writes_behind),

@@ -81,7 +81,8 @@ pub fn less_entries(bytes: &[u8]) -> Option<Vec<u8>> {
 /// What stands where an instruction was: R0 := 0.
 const NOTHING: Instruction = Instruction::Const { a: 0, value: 0 };
 
-/// The list without a sheet, a footprint, an instruction or a line, or with a simpler instruction.
+/// The list without a sheet, a footprint, an instruction or a line, or with a simpler instruction: a fan of
+/// fewer children or a spawn, or nothing.
 fn smaller_records(list: &TaskList) -> Vec<TaskList> {
     let mut smaller = Vec::new();
     for s in 1..list.bodies.len() {
@@ -104,9 +105,9 @@ fn smaller_records(list: &TaskList) -> Vec<TaskList> {
     }
     for s in 0..list.bodies.len() {
         for pc in 0..list.bodies[s].len() {
-            if list.bodies[s][pc] != NOTHING {
+            for simpler in simpler_instructions(list.bodies[s][pc]) {
                 let mut copy = list.clone();
-                copy.bodies[s][pc] = NOTHING;
+                copy.bodies[s][pc] = simpler;
                 smaller.push(copy);
             }
         }
@@ -114,7 +115,28 @@ fn smaller_records(list: &TaskList) -> Vec<TaskList> {
     smaller
 }
 
-/// The spawns of the removed sheet become nothing.
+fn simpler_instructions(instruction: Instruction) -> Vec<Instruction> {
+    let mut simpler = Vec::new();
+    if instruction != NOTHING {
+        simpler.push(NOTHING);
+    }
+    if let Instruction::Fan {
+        body,
+        footprint,
+        children,
+    } = instruction
+    {
+        simpler.push(Instruction::Spawn { body, footprint });
+        simpler.extend((1..children).map(|children| Instruction::Fan {
+            body,
+            footprint,
+            children,
+        }));
+    }
+    simpler
+}
+
+/// The spawns and fans of the removed sheet become nothing.
 fn without_body(list: &TaskList, s: usize) -> TaskList {
     let mut copy = list.clone();
     copy.bodies.remove(s);
@@ -124,7 +146,7 @@ fn without_body(list: &TaskList, s: usize) -> TaskList {
     copy
 }
 
-/// The spawns with the removed footprint become nothing.
+/// The spawns and fans with the removed footprint become nothing.
 fn without_footprint(list: &TaskList, f: usize) -> TaskList {
     let mut copy = list.clone();
     copy.footprints.remove(f);
@@ -145,11 +167,15 @@ fn renumbered(number: u8, removed: usize) -> Option<u8> {
 
 fn change_spawns(list: &mut TaskList, change: impl Fn(u8, u8) -> Option<(u8, u8)>) {
     for instruction in list.bodies.iter_mut().flatten() {
-        if let Instruction::Spawn { body, footprint } = *instruction {
-            *instruction = match change(body, footprint) {
-                Some((body, footprint)) => Instruction::Spawn { body, footprint },
-                None => NOTHING,
-            };
+        let changed = match instruction {
+            Instruction::Spawn { body, footprint }
+            | Instruction::Fan {
+                body, footprint, ..
+            } => change(*body, *footprint).map(|to| (*body, *footprint) = to),
+            _ => continue,
+        };
+        if changed.is_none() {
+            *instruction = NOTHING;
         }
     }
 }

@@ -182,7 +182,7 @@ fn any_line(rng: &mut Rng, locations: usize) -> Line {
 /// An instruction of any form; a constant is mostly an entry's number.
 fn any_instruction(rng: &mut Rng, list: &TaskList, s: usize) -> Instruction {
     let (a, b, c) = (rng.below(4) as u8, rng.below(4) as u8, rng.below(4) as u8);
-    match rng.below(12) {
+    match rng.below(13) {
         0 | 1 => {
             let value = match rng.below(8) {
                 0 => rng.below(65_536),
@@ -207,6 +207,11 @@ fn any_instruction(rng: &mut Rng, list: &TaskList, s: usize) -> Instruction {
             body: rng.between(s + 1, list.bodies.len() - 1) as u8,
             footprint: rng.below(list.footprints.len()) as u8,
         },
+        11 if s + 1 < list.bodies.len() && !list.footprints.is_empty() => Instruction::Fan {
+            body: rng.between(s + 1, list.bodies.len() - 1) as u8,
+            footprint: rng.below(list.footprints.len()) as u8,
+            children: rng.pick(&[1, 2, 3, 16, rng.clone().between(1, 16) as u8, 0, 17]),
+        },
         _ => Instruction::Wait { a },
     }
 }
@@ -227,10 +232,15 @@ fn repair(rng: &mut Rng, list: &mut TaskList) {
         for pc in 0..length {
             match &mut list.bodies[s][pc] {
                 Instruction::Skip { b, .. } => *b = (*b).min((length - pc - 1) as u8),
-                Instruction::Spawn { .. } if s + 1 == bodies || footprints == 0 => {
+                Instruction::Spawn { .. } | Instruction::Fan { .. }
+                    if s + 1 == bodies || footprints == 0 =>
+                {
                     list.bodies[s][pc] = Instruction::Wait { a: 0 };
                 }
-                Instruction::Spawn { body, footprint } => {
+                Instruction::Spawn { body, footprint }
+                | Instruction::Fan {
+                    body, footprint, ..
+                } => {
                     *footprint %= footprints as u8;
                     if (*body as usize) <= s || *body as usize >= bodies {
                         *body = (s + 1 + *body as usize % (bodies - s - 1)) as u8;
@@ -238,16 +248,28 @@ fn repair(rng: &mut Rng, list: &mut TaskList) {
                 }
                 _ => {}
             }
+            if let Instruction::Fan { children, .. } = &mut list.bodies[s][pc] {
+                *children = (*children).clamp(1, 16);
+            }
         }
     }
     if rng.below(16) == 0 {
         return;
     }
-    // fewer jobs: spawns become waits, from the last sheet that has one
+    // fewer jobs: fans become spawns, and those waits, from the last sheet that has one
     for s in (0..bodies).rev() {
         for pc in 0..list.bodies[s].len() {
             if task_count(list, 0) <= 128 {
                 return;
+            }
+            if let Instruction::Fan {
+                body, footprint, ..
+            } = list.bodies[s][pc]
+            {
+                list.bodies[s][pc] = Instruction::Spawn { body, footprint };
+                if task_count(list, 0) <= 128 {
+                    return;
+                }
             }
             if matches!(list.bodies[s][pc], Instruction::Spawn { .. }) {
                 list.bodies[s][pc] = Instruction::Wait { a: 0 };

@@ -2,7 +2,7 @@
 
 use crate::coordinator::{call, open_files};
 use crate::list::{
-    check, decode, encode, encode_instruction, task_count, task_counts, Instruction, Line,
+    block, check, decode, encode, encode_instruction, task_count, task_counts, Instruction, Line,
     TaskList, COUNT_CAP,
 };
 use crate::rng::Rng;
@@ -32,14 +32,15 @@ pub struct Shape {
     pub instructions: usize,
     /// Every footprint and body has the most.
     pub full: bool,
-    /// How often an instruction is a spawn.
+    /// How often an instruction is a spawn or a fan, and how often it is then a fan.
     pub spawn_percent: usize,
+    pub fan_percent: usize,
     /// How often fields are chosen so that the step should not fault.
     pub tame_percent: usize,
     /// The largest count(0), and the largest count of the other bodies.
     pub root_limit: u64,
     pub other_limit: u64,
-    /// Body 0 spawns the largest that fit.
+    /// Body 0 spawns the largest that fit, and fans have the most children that fit.
     pub fill: bool,
 }
 
@@ -53,6 +54,7 @@ pub fn random_shape(rng: &mut Rng) -> Shape {
         instructions: 12,
         full: false,
         spawn_percent: 40,
+        fan_percent: rng.pick(&[0, 20, 40, 80]),
         tame_percent: 98,
         root_limit: 128,
         other_limit: 30,
@@ -207,6 +209,10 @@ fn random_footprint(rng: &mut Rng, shape: &Shape, earlier: &[Vec<Line>]) -> Vec<
     rng.shuffle(&mut locations);
     let mut registers = vec![0, 1, 2, 3];
     rng.shuffle(&mut registers);
+    // The register that parts the children of a fan comes first more often.
+    if rng.percent(shape.fan_percent) {
+        registers.sort_by_key(|register| *register == 0);
+    }
     for i in 0..count {
         let writes = rng.below(2) as u8;
         if rng.percent(15) && !registers.is_empty() {
@@ -340,9 +346,7 @@ fn random_body(
             }];
         }
         for instruction in group {
-            if let Instruction::Spawn { body: a, .. } = instruction {
-                count += draft.counts[a as usize];
-            }
+            count += block(&instruction, &draft.counts);
             body.push(instruction);
         }
     }
@@ -360,7 +364,7 @@ fn random_body(
     body
 }
 
-/// A spawn whose count is at most `room`, behind the constants for its register lines; empty when
+/// A spawn or fan that adds at most `room`, behind the constants for its register lines; empty when
 /// there is none.
 fn spawn_group(rng: &mut Rng, draft: &Draft, room: u64) -> Vec<Instruction> {
     let (shape, list, homes) = (draft.shape, draft.list, draft.homes);
@@ -398,15 +402,22 @@ fn spawn_group(rng: &mut Rng, draft: &Draft, room: u64) -> Vec<Instruction> {
     if !tame {
         footprint = rng.below(list.footprints.len());
     }
+    let mut children = None;
+    if rng.percent(shape.fan_percent) {
+        children = draw_children(rng, draft, footprint, room / draft.counts[a], tame);
+    }
     if tame {
         let mut used = Vec::new();
         for line in &list.footprints[footprint] {
             if line.kind < 2 {
                 used.push(line.value as usize);
             }
+            if by_child(line) {
+                used.extend(0..children.unwrap_or(0));
+            }
         }
         for line in &list.footprints[footprint] {
-            if line.kind >= 2 {
+            if line.kind >= 2 && !(by_child(line) && children.is_some()) {
                 let needed = line.kind - 1;
                 let free: Vec<usize> = (0..list.locations)
                     .filter(|location| draft.own[*location] >= needed && !used.contains(location))
@@ -422,11 +433,51 @@ fn spawn_group(rng: &mut Rng, draft: &Draft, room: u64) -> Vec<Instruction> {
             }
         }
     }
-    group.push(Instruction::Spawn {
-        body: a as u8,
-        footprint: footprint as u8,
+    let (body, footprint) = (a as u8, footprint as u8);
+    group.push(match children {
+        Some(children) => Instruction::Fan {
+            body,
+            footprint,
+            children: children as u8,
+        },
+        None => Instruction::Spawn { body, footprint },
     });
     group
+}
+
+/// The line names the entry by R0, which parts the children of a fan.
+fn by_child(line: &Line) -> bool {
+    line.kind >= 2 && line.value == 0
+}
+
+/// How many children a fan with this footprint has, at most `room`: few, or the most; where it is tame,
+/// only such whose entry by R0 is one that the spawner has and that no other line names. None where
+/// there is no such number.
+fn draw_children(
+    rng: &mut Rng,
+    draft: &Draft,
+    footprint: usize,
+    room: u64,
+    tame: bool,
+) -> Option<usize> {
+    let lines = &draft.list.footprints[footprint];
+    let mut most = room.min(16) as usize;
+    for line in lines.iter().filter(|line| tame && by_child(line)) {
+        let good = |i: usize| {
+            let named = |other: &Line| other.kind < 2 && other.value as usize == i;
+            i < draft.list.locations && draft.own[i] >= line.kind - 1 && !lines.iter().any(named)
+        };
+        most = (0..most).take_while(|i| good(*i)).count();
+    }
+    if most == 0 {
+        return None;
+    }
+    Some(match rng.below(4) {
+        _ if draft.shape.fill && draft.s == 0 => most,
+        0 => most,
+        1 => rng.between(1, most),
+        _ => rng.between(1, most.min(4)),
+    })
 }
 
 /// Any instruction but a spawn; a load, store or wait mostly behind the constant for its entry.
@@ -538,6 +589,25 @@ pub fn doubling_list(more: usize) -> TaskList {
         });
     }
     list
+}
+
+/// #104: sheet 0 has a fan of 16 jobs, each of which has one of six, and then single ones: up to 16 of
+/// them by a fan, the others by another. 113 + `single` jobs, 1 to 32.
+pub fn fan_tree(single: usize) -> TaskList {
+    let fan = |body, children: usize| Instruction::Fan {
+        body,
+        footprint: 0,
+        children: children as u8,
+    };
+    let mut root = vec![fan(1, 16), fan(2, single.min(16))];
+    if single > 16 {
+        root.push(fan(2, single - 16));
+    }
+    TaskList {
+        locations: 1,
+        footprints: vec![Vec::new()],
+        bodies: vec![root, vec![fan(2, 6)], Vec::new()],
+    }
 }
 
 // ---------------------------------------------------------------------------------------------
@@ -655,8 +725,10 @@ pub fn damaged_list(rng: &mut Rng, refusal: u32) -> Vec<u8> {
 
 /// A list whose only fault is count(0), often by one, sometimes beyond any machine word.
 pub fn too_many_tasks(rng: &mut Rng) -> TaskList {
-    if rng.percent(30) {
-        return doubling_list(rng.between(2, 30));
+    match rng.below(10) {
+        0..=2 => return doubling_list(rng.between(2, 30)),
+        3 => return fan_tree(rng.between(16, 32)),
+        _ => {}
     }
     loop {
         let shape = Shape {
@@ -751,9 +823,11 @@ fn refusal_of_field(field: &Field) -> u32 {
 fn bad_instruction(rng: &mut Rng, list: &TaskList, body: usize, pc: usize) -> [u8; 4] {
     let registers = [rng.below(4) as u8, rng.below(4) as u8, rng.below(4) as u8];
     let count = list.bodies[body].len();
-    match rng.below(6) {
+    // A spawn, or a fan of some children.
+    let (code, children) = rng.pick(&[(7, 0), (9, 1), (9, 16)]);
+    match rng.below(7) {
         // Another code.
-        0 => [byte_from(rng, 9), registers[0], 0, 0],
+        0 => [byte_from(rng, 10), registers[0], 0, 0],
         // A register above 3.
         1 => {
             let (code, listed) = rng.pick(&[
@@ -798,12 +872,24 @@ fn bad_instruction(rng: &mut Rng, list: &TaskList, body: usize, pc: usize) -> [u
             } else {
                 byte_from(rng, list.bodies.len())
             };
-            [7, target, 0, 0]
+            [code, target, 0, children]
         }
         // A footprint not of the list.
+        5 => {
+            let target = (body + 1).min(list.bodies.len() - 1);
+            let footprint = byte_from(rng, list.footprints.len());
+            [code, target as u8, footprint, children]
+        }
+        // A fan of no child, or of more than 16.
         _ => {
             let target = (body + 1).min(list.bodies.len() - 1);
-            [7, target as u8, byte_from(rng, list.footprints.len()), 0]
+            let children = if rng.percent(40) {
+                0
+            } else {
+                byte_from(rng, 17)
+            };
+            let footprint = rng.below(list.footprints.len().max(1));
+            [9, target as u8, footprint as u8, children]
         }
     }
 }
@@ -836,7 +922,7 @@ pub fn list_case(rng: &mut Rng) -> Vec<u8> {
             let count = rng.below(4) as u8;
             bytes.push(count);
             for _ in 0..rng.below(20) {
-                bytes.push(rng.below(9) as u8);
+                bytes.push(rng.below(11) as u8);
             }
             bytes
         }

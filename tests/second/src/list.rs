@@ -40,7 +40,7 @@ pub struct Line {
     pub value: u8,
 }
 
-/// "An instruction is one of nine forms, each with its own fields"
+/// "An instruction is one of nine forms, each with its own fields"; #104: "New code 9, fan"
 #[derive(Clone, Copy, Debug, PartialEq, Eq)]
 pub enum Instruction {
     /// "0 const: Ra := b + 256 × c"
@@ -61,6 +61,12 @@ pub enum Instruction {
     Spawn { body: u8, footprint: u8 },
     /// "8 wait: entry number Ra"
     Wait { a: u8 },
+    /// #104: "fan: sheet a (a higher one), footprint b, c children (1 to 16)"
+    Fan {
+        body: u8,
+        footprint: u8,
+        children: u8,
+    },
 }
 
 /// The bytes of a list and how many of them are taken.
@@ -214,7 +220,7 @@ fn take_body(
 }
 
 /// "An instruction is one of nine forms, each with its own fields; fields not listed are 0."
-/// "Another code, or a register above 3, is a bad instruction."
+/// "Another code, or a register above 3, is a bad instruction." #104: "A bad c gives 5."
 fn decode_instruction(field: [u8; 4]) -> Option<Instruction> {
     let [code, a, b, c] = field;
     let register = |number: u8| number <= 3;
@@ -234,6 +240,11 @@ fn decode_instruction(field: [u8; 4]) -> Option<Instruction> {
             footprint: b,
         }),
         8 if register(a) && b == 0 && c == 0 => Some(Instruction::Wait { a }),
+        9 if (1..=16).contains(&c) => Some(Instruction::Fan {
+            body: a,
+            footprint: b,
+            children: c,
+        }),
         _ => None,
     }
 }
@@ -246,7 +257,8 @@ fn skip_is_good(instruction: &Instruction, pc: usize, count: usize) -> bool {
     }
 }
 
-/// "A spawn names a footprint of the list and a sheet of the list, higher than its own."
+/// "A spawn names a footprint of the list and a sheet of the list, higher than its own." #104, of a fan:
+/// "sheet a (a higher one), footprint b".
 fn spawn_is_good(
     instruction: &Instruction,
     own_number: usize,
@@ -254,7 +266,10 @@ fn spawn_is_good(
     footprint_count: usize,
 ) -> bool {
     match instruction {
-        Instruction::Spawn { body, footprint } => {
+        Instruction::Spawn { body, footprint }
+        | Instruction::Fan {
+            body, footprint, ..
+        } => {
             let body = *body as usize;
             let footprint = *footprint as usize;
             footprint < footprint_count && body < body_count && body > own_number
@@ -263,20 +278,28 @@ fn spawn_is_good(
     }
 }
 
-/// "count(s) is 1 plus count(a) for each spawn in sheet s, passed over or not." Spawns go to higher
-/// bodies only, so the counts are worked out from the last body down.
+/// "count(s) is 1 plus count(a) for each spawn in sheet s, passed over or not." #104: "The fan adds
+/// c × count(a) to its sheet's count". Spawns and fans go to higher bodies only, so the counts are
+/// worked out from the last body down.
 pub fn task_counts(list: &TaskList) -> Vec<u64> {
     let mut counts = vec![0; list.bodies.len()];
     for s in (0..list.bodies.len()).rev() {
         let mut count = 1;
         for instruction in &list.bodies[s] {
-            if let Instruction::Spawn { body, .. } = instruction {
-                count += counts[*body as usize];
-            }
+            count += block(instruction, &counts);
         }
         counts[s] = if count > COUNT_CAP { COUNT_CAP } else { count };
     }
     counts
+}
+
+/// What an instruction adds to its sheet's count: count(a) for a spawn, c × count(a) for a fan.
+pub fn block(instruction: &Instruction, counts: &[u64]) -> u64 {
+    match instruction {
+        Instruction::Spawn { body, .. } => counts[*body as usize],
+        Instruction::Fan { body, children, .. } => *children as u64 * counts[*body as usize],
+        _ => 0,
+    }
 }
 
 /// count(s)
@@ -322,6 +345,11 @@ pub fn encode_instruction(instruction: &Instruction) -> [u8; 4] {
         Instruction::Skip { a, b } => [6, a, b, 0],
         Instruction::Spawn { body, footprint } => [7, body, footprint, 0],
         Instruction::Wait { a } => [8, a, 0, 0],
+        Instruction::Fan {
+            body,
+            footprint,
+            children,
+        } => [9, body, footprint, children],
     }
 }
 

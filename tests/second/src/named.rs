@@ -2,8 +2,8 @@
 
 use crate::case_file::Case;
 use crate::cases::{
-    accepted_file, any_call, doubling_list, fitting_library, list_case, next_call, sensible_call,
-    Strategy, EXAMPLE_P, STRATEGIES,
+    accepted_file, any_call, doubling_list, fan_tree, fitting_library, list_case, next_call,
+    sensible_call, Strategy, EXAMPLE_P, STRATEGIES,
 };
 use crate::coordinator::call;
 use crate::list::{decode, encode, task_count, Instruction, Line, TaskList};
@@ -21,6 +21,14 @@ pub fn spawn(body: u8, footprint: u8) -> Instruction {
     Instruction::Spawn { body, footprint }
 }
 
+pub fn fan(body: u8, footprint: u8, children: u8) -> Instruction {
+    Instruction::Fan {
+        body,
+        footprint,
+        children,
+    }
+}
+
 pub fn constant(a: u8, value: u16) -> Instruction {
     Instruction::Const { a, value }
 }
@@ -32,6 +40,10 @@ pub fn read_line(value: u8) -> Line {
 pub fn write_line(value: u8) -> Line {
     Line { kind: 1, value }
 }
+
+/// Lines by R0, which is a fan's child's number.
+pub const READ_BY_CHILD: Line = Line { kind: 2, value: 0 };
+pub const WRITE_BY_CHILD: Line = Line { kind: 3, value: 0 };
 
 /// The bytes of a list with these parts.
 pub fn list(locations: usize, footprints: &[&[Line]], bodies: &[&[Instruction]]) -> Vec<u8> {
@@ -87,6 +99,7 @@ pub fn named_cases() -> Vec<Case> {
     cases.extend(faults());
     cases.extend(large_numbers());
     cases.extend(trees());
+    cases.extend(fans());
     cases.extend(refused_lists());
     cases
 }
@@ -499,6 +512,238 @@ pub fn deepest_list() -> Vec<u8> {
     })
 }
 
+/// #104
+fn fans() -> Vec<Case> {
+    let load = |a, b| Instruction::Load { a, b };
+    let store = |a, b| Instruction::Store { a, b };
+    let mut cases = Vec::new();
+    // Registers, order and queues after the fan; then the children in other orders than that.
+    let strengths = fan_of_strengths();
+    let library = [5, 6, 7, 8];
+    for text in [
+        "start 0, step 0, step 0, step 0, step 0",
+        // The last child first, the spawner's end before the first child's.
+        "start 0, step 0, step 0, step 0, step 0, start 3, step 3, step 3, start 4, step 0, end 0, \
+         start 1, step 3, end 3, step 1, start 2, step 1, step 1, end 1, start 3, step 2, step 2, \
+         step 2, end 2, start 0, step 4",
+        // The spawner behind the children: its wait.
+        "start 0, step 0, step 0, step 0, step 0, step 0, step 0, start 1, start 2, step 2, step 1, \
+         end 1, step 0, step 1, step 1, end 1, step 0, step 2, step 2, end 2, step 0, start 3, \
+         step 3, step 3, step 3, end 3, step 0, end 0",
+    ] {
+        cases.push(case(&strengths, &library, text));
+    }
+    cases.push(whole(&strengths, &library));
+    // Children that all write one entry go one after the other; such as read it don't.
+    for lines in [[write_line(0)], [read_line(0)]] {
+        let bytes = list(
+            1,
+            &[&lines],
+            &[&[fan(1, 0, 3), load(2, 1)], &[constant(1, 0), load(2, 1)]],
+        );
+        cases.push(case(
+            &bytes,
+            &[5],
+            "start 0, step 0, start 3, start 2, step 0, start 1, start 2, step 1, step 1, end 1, \
+             start 3, start 2, step 2, step 2, end 2, start 3, step 0, step 3, step 3, end 3, \
+             step 0, end 0",
+        ));
+    }
+    // A fan never waits, though a writer of all its entries stands ahead of the spawner.
+    let behind = list(
+        2,
+        &[&[write_line(0), write_line(1)], &[WRITE_BY_CHILD]],
+        &[&[spawn(2, 0), fan(1, 1, 2)], &[store(0, 1)], &[]],
+    );
+    cases.push(case(
+        &behind,
+        &LIBRARY_P,
+        "start 0, step 0, step 0, start 3, start 2, end 0, start 1, start 3, end 1, start 3, start 2",
+    ));
+    // One child: R0 is 0 whatever the spawner's is. 16 children, one of a sheet that has none.
+    let one = list(
+        2,
+        &[&[WRITE_BY_CHILD]],
+        &[&[constant(0, 1), fan(1, 0, 1), spawn(1, 0)], &[store(0, 0)]],
+    );
+    cases.push(whole(&one, &LIBRARY_P));
+    let sixteen = list(
+        16,
+        &[&[WRITE_BY_CHILD]],
+        &[&[fan(1, 0, 16)], &[constant(1, 9), store(0, 1)]],
+    );
+    let library: Vec<u32> = (0..16).map(|entry| 100 + entry).collect();
+    cases.push(whole(&sixteen, &library));
+    cases.extend(fan_numbers());
+    cases.extend(fan_faults());
+    // 128 jobs, and 129, which is refused; then counts beyond any machine word.
+    for single in [15, 16] {
+        cases.push(case(
+            &encode(&fan_tree(single)),
+            &[0],
+            "start 0, step 0, step 0, start 106, step 106, start 112, start 113, start 114, \
+             start 127, start 8, step 8, start 14, end 0, end 8",
+        ));
+    }
+    cases.push(queue_of_128_by_fans());
+    for reached in [false, true] {
+        cases.push(case(
+            &fans_of_fans(reached),
+            &[5],
+            "start 0, step 0, start 1",
+        ));
+    }
+    cases
+}
+
+/// #104: a fan of three children; child i writes entry i, into which it stores entry 3 + R1. The spawner's
+/// R0 is 3; behind the fan it waits for entry 0 and loads it.
+pub fn fan_of_strengths() -> Vec<u8> {
+    list(
+        4,
+        &[&[WRITE_BY_CHILD, Line { kind: 2, value: 3 }]],
+        &[
+            &[
+                constant(0, 3),
+                constant(1, 40),
+                constant(3, 3),
+                fan(1, 0, 3),
+                Instruction::Sub { a: 2, b: 2, c: 2 },
+                Instruction::Wait { a: 2 },
+                Instruction::Load { a: 2, b: 2 },
+            ],
+            &[
+                Instruction::Load { a: 2, b: 3 },
+                Instruction::Add { a: 2, b: 2, c: 1 },
+                Instruction::Store { a: 0, b: 2 },
+            ],
+        ],
+    )
+}
+
+/// #104: sheet 1 counts 3. Fans, a spawn, and fans and a spawn again: jobs 1, 4 and 7; 10; 13 and 14; 15;
+/// 16.
+pub fn fans_and_spawns(first: Instruction) -> Vec<u8> {
+    list(
+        1,
+        &[&[]],
+        &[
+            &[
+                first,
+                fan(1, 0, 3),
+                spawn(1, 0),
+                fan(2, 0, 2),
+                fan(2, 0, 1),
+                spawn(2, 0),
+            ],
+            &[fan(2, 0, 2)],
+            &[],
+        ],
+    )
+}
+
+/// The numbers of the jobs behind a fan, also behind one that is passed over.
+fn fan_numbers() -> Vec<Case> {
+    let mut cases = Vec::new();
+    for passed_over in [0, 1, 3] {
+        let bytes = fans_and_spawns(Instruction::Skip {
+            a: 0,
+            b: passed_over,
+        });
+        cases.push(case(
+            &bytes,
+            &[5],
+            "start 0, step 0, step 0, step 0, step 0, step 0, step 0, start 1, start 4, start 7, \
+             step 4, step 7, start 10, step 10, start 11, start 13, start 14, start 16, end 14",
+        ));
+        cases.push(whole(&bytes, &[5]));
+    }
+    cases
+}
+
+/// Faults of a fan: by children, then lines. The spawner, job 1, reads entry 0 and writes 1, or the other
+/// way about, and has no other of C = 4; R1 is 3, R2 is 1.
+fn fan_faults() -> Vec<Case> {
+    let mut cases = Vec::new();
+    let own = [[read_line(0), write_line(1)], [write_line(0), read_line(1)]];
+    let lines: [(usize, &[Line]); 9] = [
+        // Fault 1 of child 2.
+        (0, &[READ_BY_CHILD]),
+        // Fault 2 of child 0, at its first line and at its last; then of child 1.
+        (0, &[WRITE_BY_CHILD]),
+        (0, &[read_line(1), WRITE_BY_CHILD]),
+        (1, &[WRITE_BY_CHILD]),
+        // Fault 3 of child 0, then of child 1.
+        (0, &[READ_BY_CHILD, read_line(0)]),
+        (0, &[READ_BY_CHILD, read_line(1)]),
+        // Fault 3 of child 0 before fault 1 of child 2, though the latter has it at an earlier line.
+        (0, &[READ_BY_CHILD, read_line(0), read_line(1)]),
+        // A line that names another register: the same for each child.
+        (0, &[Line { kind: 2, value: 1 }]),
+        (0, &[Line { kind: 3, value: 2 }, READ_BY_CHILD]),
+    ];
+    for (spawner, lines) in lines {
+        for children in [1, 2, 3] {
+            let bytes = list(
+                4,
+                &[&own[spawner], lines],
+                &[
+                    &[constant(1, 3), constant(2, 1), spawn(1, 0)],
+                    &[fan(2, 1, children), constant(3, 7)],
+                    &[],
+                ],
+            );
+            let text =
+                "start 0, step 0, step 0, step 0, start 1, step 1, start 2, step 1, end 1, end 1";
+            cases.push(case(&bytes, &[5, 6, 7, 8], text));
+        }
+    }
+    // Fault 1 of the last of 16, at C.
+    let bytes = list(
+        15,
+        &[&[READ_BY_CHILD]],
+        &[&[fan(1, 0, 15), fan(1, 0, 16), spawn(1, 0)], &[]],
+    );
+    cases.push(case(
+        &bytes,
+        &[5; 15],
+        "start 0, step 0, step 0, start 15, start 16, start 1, step 0, end 0",
+    ));
+    cases
+}
+
+/// All of 128 jobs in one queue, by fans of fans: eight of 15 each, less one.
+fn queue_of_128_by_fans() -> Case {
+    let bytes = list(
+        1,
+        &[&[read_line(0)]],
+        &[&[fan(1, 0, 7), fan(2, 0, 15)], &[fan(2, 0, 15)], &[]],
+    );
+    let mut case = case(&bytes, &[5], "start 0, step 0, step 0");
+    for child in [6, 0, 3, 1, 5, 2, 4] {
+        case.calls
+            .extend([(0, 1 + 16 * child), (1, 1 + 16 * child)]);
+    }
+    case.calls
+        .extend([(0, 127), (0, 128), (0, 112), (2, 1), (2, 0)]);
+    case
+}
+
+/// 32 sheets, each but the first and the last with a fan of 16 of the next, so that counts go beyond any
+/// machine word; sheet 0 has a fan of the next, which is refused, or of the last.
+fn fans_of_fans(next: bool) -> Vec<u8> {
+    let mut bodies = vec![vec![fan(if next { 1 } else { 31 }, 0, 2)]];
+    for s in 1..31 {
+        bodies.push(vec![fan(s + 1, 0, 16)]);
+    }
+    bodies.push(Vec::new());
+    encode(&TaskList {
+        locations: 1,
+        footprints: vec![vec![read_line(0)]],
+        bodies,
+    })
+}
+
 fn refused_lists() -> Vec<Case> {
     let head = |locations| vec![0x4A, 0x48, locations, 0, 1, 0x4A, 0x42, 0];
     let mut cases = vec![
@@ -549,6 +794,15 @@ fn refused_lists() -> Vec<Case> {
         [7, 1, 0, 1],
         [8, 0, 1, 0],
         [9, 0, 0, 0],
+        [9, 1, 0, 0],
+        [9, 1, 0, 1],
+        [9, 1, 0, 16],
+        [9, 1, 0, 17],
+        [9, 1, 0, 255],
+        [9, 0, 0, 2],
+        [9, 2, 0, 2],
+        [9, 1, 1, 2],
+        [10, 0, 0, 0],
     ] {
         let bytes = [&[1][..], &instruction].concat();
         cases.push(case(&sheet(&bytes), &LIBRARY_P, ""));

@@ -1,6 +1,6 @@
 //! Jobs, order, queues, calls and the hand run.
 
-use crate::list::{decode, task_counts, Instruction, Line, TaskList, SLICE_TOO_SHORT};
+use crate::list::{block, decode, task_counts, Instruction, Line, TaskList, SLICE_TOO_SHORT};
 
 /// "8, library length not C"
 pub const LIBRARY_LENGTH: u32 = 8;
@@ -185,7 +185,7 @@ fn count_call(run: &mut Run, task: usize, weight: u64) {
     run.records[task].weight += weight;
 }
 
-/// "start 5, end 2, codes 0 to 8: 1, 1, 1, 1, 3, 4, 1, 8, 1"
+/// "start 5, end 2, codes 0 to 8: 1, 1, 1, 1, 3, 4, 1, 8, 1"; #104, of a fan: "The weight is 8 × c."
 const START_WEIGHT: u64 = 5;
 const END_WEIGHT: u64 = 2;
 fn step_weight(instruction: &Instruction) -> u64 {
@@ -199,6 +199,7 @@ fn step_weight(instruction: &Instruction) -> u64 {
         Instruction::Skip { .. } => 1,
         Instruction::Spawn { .. } => 8,
         Instruction::Wait { .. } => 1,
+        Instruction::Fan { children, .. } => 8 * *children as u64,
     }
 }
 
@@ -325,7 +326,8 @@ pub fn entry_concerned(run: &Run, task: usize, instruction: &Instruction) -> Vec
 }
 
 /// "Load needs reading, store needs writing, wait needs what the job's own mode there allows. Const,
-/// add, sub, less, skip and spawn never wait." Only asked when the step has no fault.
+/// add, sub, less, skip and spawn never wait." #104, of a fan: "in one step that never waits". Only
+/// asked when the step has no fault.
 fn step_may_go(run: &Run, task: usize, instruction: &Instruction) -> bool {
     let registers = run.records[task].registers;
     match instruction {
@@ -345,7 +347,14 @@ fn fault_of(run: &Run, task: usize, instruction: &Instruction) -> u8 {
         Instruction::Load { b, .. } => fault_of_use(run, task, registers[*b as usize], false),
         Instruction::Store { a, .. } => fault_of_use(run, task, registers[*a as usize], true),
         Instruction::Wait { a } => fault_of_use(run, task, registers[*a as usize], false),
-        Instruction::Spawn { footprint, .. } => fault_of_spawn(run, task, *footprint as usize),
+        Instruction::Spawn { footprint, .. } => {
+            fault_of_child(run, task, *footprint as usize, &registers)
+        }
+        Instruction::Fan {
+            footprint,
+            children,
+            ..
+        } => fault_of_fan(run, task, *footprint as usize, *children),
         _ => 0,
     }
 }
@@ -362,12 +371,31 @@ fn fault_of_use(run: &Run, task: usize, number: u32, writes: bool) -> u8 {
     0
 }
 
-/// "Lines are tested in turn: 1, 2, then 3 against earlier lines."
-fn fault_of_spawn(run: &Run, task: usize, footprint: usize) -> u8 {
-    let registers = run.records[task].registers;
+/// #104: "If any child would fault, in order of children and lines, none is made."
+fn fault_of_fan(run: &Run, task: usize, footprint: usize, children: u8) -> u8 {
+    for i in 0..children {
+        let registers = registers_of_child(run, task, i);
+        let fault = fault_of_child(run, task, footprint, &registers);
+        if fault != 0 {
+            return fault;
+        }
+    }
+    0
+}
+
+/// #104: "Child i has R0 = i, and its footprint is found with that R0." The others are copied from the
+/// spawner, as a spawn's.
+fn registers_of_child(run: &Run, task: usize, i: u8) -> [u32; 4] {
+    let mut registers = run.records[task].registers;
+    registers[0] = i as u32;
+    registers
+}
+
+/// A child with these registers. "Lines are tested in turn: 1, 2, then 3 against earlier lines."
+fn fault_of_child(run: &Run, task: usize, footprint: usize, registers: &[u32; 4]) -> u8 {
     let mut earlier: Vec<u32> = Vec::new();
     for line in &run.list.footprints[footprint] {
-        let number = line_location(line, &registers);
+        let number = line_location(line, registers);
         let fault = fault_of_use(run, task, number, line_mode(line) == WRITE);
         if fault != 0 {
             return fault;
@@ -442,28 +470,71 @@ pub fn step(run: &mut Run, number: u32) -> Result<(), u32> {
             spawn(run, task, body as usize, footprint as usize);
         }
         Instruction::Wait { .. } => {}
+        Instruction::Fan {
+            body,
+            footprint,
+            children,
+        } => {
+            fan(run, task, body as usize, footprint as usize, children);
+        }
     }
     run.records[task].pc += 1 + passed_over;
     Ok(())
 }
 
-/// "Job n's spawn at place i makes job n + 1 + the counts of all spawns before i in that sheet."
+/// "Job n's spawn at place i makes job n + 1 + the counts of all spawns before i in that sheet." #104:
+/// "Later spawns and fans of the sheet number on after the block." The number of the spawn's child, and
+/// of the fan's child 0.
 fn child_number(run: &Run, task: usize, pc: usize) -> usize {
     let counts = task_counts(&run.list);
     let mut number = task as u64 + 1;
     for instruction in &run.list.bodies[run.records[task].body][..pc] {
-        if let Instruction::Spawn { body, .. } = instruction {
-            number += counts[*body as usize];
-        }
+        number += block(instruction, &counts);
     }
     number as usize
 }
 
-/// "A spawn makes the new job waiting, at place 0, with its sheet, its footprint's modes and a copy of
-/// the registers, directly ahead of its spawner in the order." Called at the spawn's own place.
+/// The numbers of the children that the instruction at this place makes, in order; none where it is
+/// neither a spawn nor a fan. #104: "child i starts at i × count(a) within that block".
+fn child_numbers(run: &Run, task: usize, pc: usize) -> Vec<usize> {
+    let first = child_number(run, task, pc);
+    match run.list.bodies[run.records[task].body][pc] {
+        Instruction::Spawn { .. } => vec![first],
+        Instruction::Fan { body, children, .. } => {
+            let count = task_counts(&run.list)[body as usize] as usize;
+            (0..children as usize).map(|i| first + i * count).collect()
+        }
+        _ => Vec::new(),
+    }
+}
+
+/// Called at the spawn's own place.
 fn spawn(run: &mut Run, task: usize, body: usize, footprint: usize) {
     let child = child_number(run, task, run.records[task].pc);
     let registers = run.records[task].registers;
+    make_child(run, task, child, body, footprint, registers);
+}
+
+/// #104: "Child 0 is foremost; all stand directly ahead of the spawner". So each in turn is placed
+/// directly ahead of it. Called at the fan's own place.
+fn fan(run: &mut Run, task: usize, body: usize, footprint: usize, children: u8) {
+    let numbers = child_numbers(run, task, run.records[task].pc);
+    for i in 0..children {
+        let registers = registers_of_child(run, task, i);
+        make_child(run, task, numbers[i as usize], body, footprint, registers);
+    }
+}
+
+/// "A spawn makes the new job waiting, at place 0, with its sheet, its footprint's modes and a copy of
+/// the registers, directly ahead of its spawner in the order."
+fn make_child(
+    run: &mut Run,
+    task: usize,
+    child: usize,
+    body: usize,
+    footprint: usize,
+    registers: [u32; 4],
+) {
     let mut record = never_made();
     record.state = WAITING;
     record.body = body;
@@ -529,16 +600,18 @@ pub fn hand_run(bytes: &[u8], library: &[u32]) -> Result<Run, u32> {
 }
 
 /// "A job is run whole thus: its start, its steps until it is at its end, and at each spawn the child
-/// is run whole before the next step; last its end call. A spawn that faults has no child."
+/// is run whole before the next step; last its end call. A spawn that faults has no child." #104, of a
+/// fan's children: "the hand run completes them from child 0 on".
 fn run_whole(run: &mut Run, task: usize) {
     start(run, task as u32).expect("the hand run's start is accepted");
     while !at_its_end(run, task) {
-        let instruction = instruction_at(run, task);
-        let pc = run.records[task].pc;
+        let children = child_numbers(run, task, run.records[task].pc);
         step(run, task as u32).expect("the hand run's step is accepted");
         let faulted = run.records[task].fault != 0;
-        if matches!(instruction, Instruction::Spawn { .. }) && !faulted {
-            run_whole(run, child_number(run, task, pc));
+        if !faulted {
+            for child in children {
+                run_whole(run, child);
+            }
         }
     }
     end(run, task as u32).expect("the hand run's end is accepted");

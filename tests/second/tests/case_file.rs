@@ -2,6 +2,7 @@
 
 use second::case_file::*;
 use second::named::*;
+use second::{decode, Instruction};
 
 /// The answers behind this word at the front of a line.
 fn numbers(text: &str, word: &str) -> Vec<u64> {
@@ -33,10 +34,18 @@ fn files_are_read_as_they_were_written() {
     assert_eq!(decode_cases(&[0; 12]).unwrap().len(), 2);
 }
 
+fn has_fan(case: &Case) -> bool {
+    let Ok(list) = decode(&case.list) else {
+        return false;
+    };
+    let mut instructions = list.bodies.iter().flatten();
+    instructions.any(|instruction| matches!(instruction, Instruction::Fan { .. }))
+}
+
 #[test]
 fn the_stored_cases_reach_every_answer() {
     let cases = stored_cases(STORED_SEED, STORED_COUNT);
-    assert!(encode_cases(&cases).len() <= 30_000);
+    assert!(encode_cases(&cases).len() <= 40_000);
     let text = cases_output(&cases);
     assert!(text.len() <= 400_000);
     assert!(!text.contains("spoiled"));
@@ -52,6 +61,11 @@ fn the_stored_cases_reach_every_answer() {
     }
     assert_eq!(distinct(faults), [0, 1, 2, 3]);
     assert!(text.contains("write 4805 4a48"));
+    // #104: lists with fans, named ones and random ones.
+    let fans = |cases: &[Case]| cases.iter().filter(|case| has_fan(case)).count();
+    let named = named_cases().len();
+    assert!(fans(&cases[..named]) > 40);
+    assert!(fans(&cases[named..]) > STORED_COUNT / 8);
     // The random ones often run to the end.
     let random = cases_output(&cases[named_cases().len()..]);
     let left = |line: &&str| line.starts_with("total ") && line.ends_with(" 0");

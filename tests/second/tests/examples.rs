@@ -1,10 +1,12 @@
 //! Every example of document 01, "Publishing examples", and single sentences with a number in them, of
 //! document 02 too.
 
-use second::cases::{doubling_list, library_bytes, EXAMPLE_P};
+use second::cases::{doubling_list, fan_tree, library_bytes, EXAMPLE_P};
+use second::list::task_counts;
 use second::named::{
-    constant, list, read_line, spawn, starts_behind_reader_and_writer,
-    steps_behind_reader_and_writer, write_line, LIBRARY_P,
+    constant, fan, fan_of_strengths, fans_and_spawns, list, read_line, spawn,
+    starts_behind_reader_and_writer, steps_behind_reader_and_writer, write_line, LIBRARY_P,
+    READ_BY_CHILD, WRITE_BY_CHILD,
 };
 use second::run::{may_read, never_made, search, ENDED, STARTED, WAITING};
 use second::*;
@@ -515,14 +517,16 @@ fn check_examples() {
     assert_eq!(check(&skip(1)), Ok(1));
     assert_eq!(check(&skip(2)), Err(5));
     // Three bytes of a bad instruction: not whole.
-    assert_eq!(
-        check(&[0x4A, 0x48, 1, 0, 1, 0x4A, 0x42, 1, 9, 0, 0]),
-        Err(1)
-    );
-    assert_eq!(
-        check(&[0x4A, 0x48, 1, 0, 1, 0x4A, 0x42, 1, 9, 0, 0, 0]),
-        Err(5)
-    );
+    for code in [9, 10] {
+        assert_eq!(
+            check(&[0x4A, 0x48, 1, 0, 1, 0x4A, 0x42, 1, code, 0, 0]),
+            Err(1)
+        );
+        assert_eq!(
+            check(&[0x4A, 0x48, 1, 0, 1, 0x4A, 0x42, 1, code, 0, 0, 0]),
+            Err(5)
+        );
+    }
     // Half a bad line: not whole.
     assert_eq!(check(&[0x4A, 0x48, 1, 1, 1, 0x4A, 0x46, 1, 4]), Err(1));
     assert_eq!(check(&[0x4A, 0x48, 1, 1, 1, 0x4A, 0x46, 1, 4, 0]), Err(4));
@@ -696,4 +700,255 @@ fn preview_functions() {
     assert_eq!(result, [1; 7]);
     assert_eq!(preview_hand_run(&[], &library[..4], &mut result), 0);
     assert_eq!(result, [5, 0, 0, 0, 1, 1, 1]);
+}
+
+/// #104: "sheet a (a higher one), footprint b, c children (1 to 16)"; "A bad c gives 5."
+#[test]
+fn which_fans_are_good() {
+    // Two footprints, three sheets; the fan stands in sheet 1.
+    let bytes = |a, b, c| {
+        let mut bytes = vec![0x4A, 0x48, 1, 2, 3, 0x4A, 0x46, 0, 0x4A, 0x46, 0];
+        bytes.extend([0x4A, 0x42, 0, 0x4A, 0x42, 1, 9, a, b, c, 0x4A, 0x42, 0]);
+        bytes
+    };
+    for a in 0..=255 {
+        let good = a == 2;
+        assert_eq!(check(&bytes(a, 0, 1)).is_ok(), good, "sheet {a}");
+    }
+    for b in 0..=255 {
+        assert_eq!(check(&bytes(2, b, 1)).is_ok(), b < 2, "footprint {b}");
+    }
+    for c in 0..=255 {
+        let answer = if (1..=16).contains(&c) { Ok(1) } else { Err(5) };
+        assert_eq!(check(&bytes(2, 1, c)), answer, "{c} children");
+    }
+    let list = decode(&bytes(2, 1, 16)).unwrap();
+    assert_eq!(list.bodies[1], [fan(2, 1, 16)]);
+    assert_eq!(encode(&list), bytes(2, 1, 16));
+}
+
+/// #104: "Child i has R0 = i, and its footprint is found with that R0. Child 0 is foremost; all stand
+/// directly ahead of the spawner".
+#[test]
+fn the_children_of_a_fan() {
+    let bytes = fan_of_strengths();
+    assert_eq!(check(&bytes), Ok(4));
+    let mut run = open(&bytes, &[5, 6, 7, 8]).unwrap();
+    start_and_step(&mut run, 0, 4);
+    assert_eq!(run.order, [1, 2, 3, 0]);
+    // One step: 5 + 1 + 1 + 1 + 8 × 3.
+    assert_eq!((run.calls, run.weight), (5, 32));
+    let spawner = record(&run, 0).unwrap();
+    assert_eq!((spawner.pc, spawner.steps, spawner.weight), (4, 4, 32));
+    assert_eq!(spawner.registers, [3, 40, 0, 3]);
+    for i in 0..3 {
+        let mut child = never_made();
+        child.state = WAITING;
+        child.body = 1;
+        child.registers = [i, 40, 0, 3];
+        child.modes[i as usize] = 2;
+        child.modes[3] = 1;
+        assert_eq!(record(&run, 1 + i).unwrap(), child);
+    }
+    assert_eq!(queue_of(&run, 1), [514, 512]);
+    assert_eq!(queue_of(&run, 3), [257, 258, 259, 512]);
+    // All may start at once, the last first, and they stand between the spawner and who was ahead.
+    for task in [3, 1, 2] {
+        assert_eq!(start(&mut run, task), Ok(()));
+    }
+    let run = hand_run(&bytes, &[5, 6, 7, 8]).unwrap();
+    assert_eq!(run.memory, [48, 48, 48, 8]);
+    assert_eq!(run.records[0].registers, [3, 40, 48, 3]);
+    // 7 steps, three times 3, four starts and ends.
+    assert_eq!(run.calls, 7 + 9 + 8);
+    assert_eq!(run.weight, 1 + 1 + 1 + 24 + 1 + 1 + 3 + 3 * 8 + 4 * 7);
+}
+
+/// The children of a fan come ahead of their spawner and behind all that stood ahead of it.
+#[test]
+fn a_fan_stands_where_its_spawner_stands() {
+    let bytes = list(
+        1,
+        &[&[]],
+        &[
+            &[spawn(1, 0), spawn(1, 0), fan(1, 0, 2)],
+            &[fan(2, 0, 3)],
+            &[],
+        ],
+    );
+    // Sheet 1 counts 4: jobs 1, 5, 9 and 13.
+    assert_eq!(check(&bytes), Ok(17));
+    let mut run = open(&bytes, &[5]).unwrap();
+    start_and_step(&mut run, 0, 3);
+    assert_eq!(run.order, [1, 5, 9, 13, 0]);
+    start_and_step(&mut run, 9, 1);
+    assert_eq!(run.order, [1, 5, 10, 11, 12, 9, 13, 0]);
+    start_and_step(&mut run, 1, 1);
+    assert_eq!(run.order, [2, 3, 4, 1, 5, 10, 11, 12, 9, 13, 0]);
+    assert_eq!(end(&mut run, 9), Ok(()));
+    assert_eq!(run.order, [2, 3, 4, 1, 5, 10, 11, 12, 13, 0]);
+}
+
+/// #104: "The fan adds c × count(a) to its sheet's count, and child i starts at i × count(a) within that
+/// block. Later spawns and fans of the sheet number on after the block."
+#[test]
+fn numbers_behind_a_fan() {
+    for (passed_over, made) in [
+        (0, &[1, 4, 7, 10, 13, 14, 15, 16][..]),
+        (1, &[10, 13, 14, 15, 16]),
+        (2, &[13, 14, 15, 16]),
+        (3, &[15, 16]),
+    ] {
+        let bytes = fans_and_spawns(Instruction::Skip {
+            a: 0,
+            b: passed_over,
+        });
+        assert_eq!(task_counts(&decode(&bytes).unwrap()), [17, 3, 1]);
+        let mut run = open(&bytes, &[5]).unwrap();
+        start_and_step(&mut run, 0, 6 - passed_over as usize);
+        assert_eq!(run.order, [made, &[0]].concat());
+        let run = hand_run(&bytes, &[5]).unwrap();
+        for task in 1..128 {
+            // The two behind 1, 4, 7 and 10 are theirs.
+            let of =
+                |first: &usize| task >= *first && task < *first + if *first < 13 { 3 } else { 1 };
+            let state = if made.iter().any(of) { ENDED } else { 0 };
+            assert_eq!(run.records[task].state, state, "job {task}");
+        }
+    }
+}
+
+/// #104: "If any child would fault, in order of children and lines, none is made. The weight is 8 × c."
+#[test]
+fn a_fan_makes_all_children_or_none() {
+    let own = [read_line(0), write_line(1)];
+    for (lines, children, fault) in [
+        (&[READ_BY_CHILD][..], 2, 0),
+        (&[READ_BY_CHILD], 3, 1),
+        (&[WRITE_BY_CHILD], 1, 2),
+        (&[read_line(1), WRITE_BY_CHILD], 3, 2),
+        (&[READ_BY_CHILD, read_line(1)], 1, 0),
+        // Child 1 names entry 1 twice, before child 2's fault 1.
+        (&[READ_BY_CHILD, read_line(1)], 3, 3),
+        // Child 0's second line before child 2's first.
+        (&[READ_BY_CHILD, write_line(0)], 3, 2),
+        (&[READ_BY_CHILD, read_line(0)], 3, 3),
+        // The others by the spawner's registers.
+        (&[Line { kind: 3, value: 1 }], 16, 0),
+        (&[Line { kind: 3, value: 3 }], 16, 2),
+    ] {
+        let bytes = list(
+            2,
+            &[&own, lines],
+            &[
+                &[constant(1, 1), spawn(1, 0)],
+                &[fan(2, 1, children), constant(2, 7)],
+                &[],
+            ],
+        );
+        let mut run = open(&bytes, &LIBRARY_P).unwrap();
+        start_and_step(&mut run, 0, 2);
+        start_and_step(&mut run, 1, 1);
+        let spawner = record(&run, 1).unwrap();
+        assert_eq!(spawner.fault, fault, "{lines:?} {children}");
+        assert_eq!(
+            (spawner.pc, spawner.steps, spawner.weight),
+            ((fault == 0) as usize, 1, 5 + 8 * children as u64)
+        );
+        let made = if fault == 0 { children as usize } else { 0 };
+        assert_eq!(run.order.len(), 2 + made);
+        for child in 0..16 {
+            let state = if child < made { WAITING } else { 0 };
+            assert_eq!(run.records[2 + child].state, state);
+        }
+        assert_eq!(spawner.registers, [0, 1, 0, 0]);
+        let hand = hand_run(&bytes, &LIBRARY_P).unwrap();
+        assert_eq!(hand.records[1].fault, fault);
+        assert_eq!(
+            hand.calls,
+            6 + 1 + if fault == 0 { 1 + 2 * made as u64 } else { 0 }
+        );
+    }
+}
+
+/// #104: "in one step that never waits".
+#[test]
+fn a_fan_never_waits() {
+    let bytes = list(
+        2,
+        &[&[write_line(0), write_line(1)], &[WRITE_BY_CHILD]],
+        &[&[spawn(1, 0), fan(1, 1, 2)], &[]],
+    );
+    let mut run = open(&bytes, &LIBRARY_P).unwrap();
+    start_and_step(&mut run, 0, 2);
+    assert_eq!(run.order, [1, 2, 3, 0]);
+    for task in [2, 3] {
+        assert_eq!(start(&mut run, task), Err(19));
+    }
+    assert_eq!(end(&mut run, 0), Ok(()));
+    start_and_end(&mut run, 1);
+    // No longer held: their entries are parted by R0.
+    for task in [3, 2] {
+        start_and_end(&mut run, task);
+    }
+    assert_eq!(run, hand_run(&bytes, &LIBRARY_P).unwrap());
+}
+
+/// #104: "the hand run completes them from child 0 on".
+#[test]
+fn the_hand_run_of_a_fan() {
+    // Each child adds its number and 1 to ten times the entry: the order shows in the digits.
+    let add = |a, b, c| Instruction::Add { a, b, c };
+    let times_ten = [add(2, 1, 1), add(3, 2, 2), add(3, 3, 3), add(2, 2, 3)];
+    let mut child = vec![
+        add(1, 0, 1),
+        constant(3, 0),
+        Instruction::Load { a: 1, b: 3 },
+    ];
+    child.extend(times_ten);
+    child.extend([
+        add(2, 2, 0),
+        constant(3, 1),
+        add(2, 2, 3),
+        constant(3, 0),
+        Instruction::Store { a: 3, b: 2 },
+    ]);
+    let bytes = list(1, &[&[write_line(0)]], &[&[fan(1, 0, 9)], &child]);
+    let run = hand_run(&bytes, &[0]).unwrap();
+    assert_eq!(run.memory, [123_456_789]);
+    // No other order of the children is possible: each waits for those ahead.
+    let mut run = open(&bytes, &[0]).unwrap();
+    start_and_step(&mut run, 0, 1);
+    for task in 2..10 {
+        assert_eq!(start(&mut run, task), Err(19));
+    }
+}
+
+#[test]
+fn trees_of_fans() {
+    assert_eq!(check(&encode(&fan_tree(1))), Ok(114));
+    assert_eq!(check(&encode(&fan_tree(15))), Ok(128));
+    assert_eq!(check(&encode(&fan_tree(16))), Err(7));
+    assert_eq!(check(&encode(&fan_tree(17))), Err(7));
+    let run = hand_run(&encode(&fan_tree(15)), &[0]).unwrap();
+    assert!(run.records.iter().all(|record| record.state == ENDED));
+    // Two fans of job 0 and one of each of its 16 children; 128 starts and ends.
+    assert_eq!(run.calls, 18 + 2 * 128);
+    assert_eq!(run.weight, 8 * 127 + 7 * 128);
+    // The children of job 0: 16 blocks of 7, then 15 of one.
+    for (task, record) in run.records.iter().enumerate().skip(1) {
+        let child = if task > 112 {
+            task - 113
+        } else {
+            (task - 1) / 7
+        };
+        let grandchild = task <= 112 && (task - 1) % 7 > 0;
+        let r0 = if grandchild {
+            (task - 1) % 7 - 1
+        } else {
+            child
+        };
+        assert_eq!(record.registers, [r0 as u32, 0, 0, 0], "job {task}");
+        assert_eq!(record.body, if grandchild || task > 112 { 2 } else { 1 });
+    }
 }

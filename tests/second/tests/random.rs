@@ -51,8 +51,17 @@ struct Met {
     step_refusals: [u64; 21],
     end_refusals: [u64; 21],
     faults: [u64; 4],
+    /// By the fault of the step, 0 where it made its children.
+    fans: [u64; 4],
     most_jobs: u64,
     most_in_order: usize,
+}
+
+/// The job's next step would be a fan.
+fn is_at_fan(run: &Run, task: usize) -> bool {
+    run.order.contains(&task)
+        && !at_its_end(run, task)
+        && matches!(instruction_at(run, task), Instruction::Fan { .. })
 }
 
 /// One random order of calls until no job is left, demand 3 after each accepted call.
@@ -66,8 +75,12 @@ fn random_order(rng: &mut Rng, bytes: &[u8], library: &[u32], met: &mut Met) {
     assert_demand_3(&run, &hand, accepted);
     while !run.order.is_empty() {
         let (kind, task) = next_call(rng, strategy, &run, last, any_percent);
+        let fan = kind == 1 && is_at_fan(&run, task as usize);
         match call(&mut run, kind, task) {
             Ok(()) => {
+                if fan {
+                    met.fans[run.records[task as usize].fault as usize] += 1;
+                }
                 accepted += 1;
                 last = task;
                 assert_demand_3(&run, &hand, accepted);
@@ -120,8 +133,10 @@ fn demand_3_on_random_lists() {
         "most jobs {}, most in order {}",
         met.most_jobs, met.most_in_order
     );
+    println!("fans {:?}", met.fans);
     for fault in 0..4 {
         assert!(met.faults[fault] > 100);
+        assert!(met.fans[fault] > 20);
     }
     assert!(met.most_jobs > 100);
     assert!(met.most_in_order > 50);
@@ -138,6 +153,17 @@ fn demand_3_on_the_doubling_trees() {
         }
     }
     assert_eq!(met.most_jobs, 128);
+}
+
+#[test]
+fn demand_3_on_a_tree_of_fans() {
+    let mut met = Met::default();
+    let bytes = encode(&fan_tree(15));
+    for seed in 0..10 {
+        random_order(&mut Rng::new(seed), &bytes, &[0], &mut met);
+    }
+    assert_eq!(met.most_jobs, 128);
+    assert_eq!(met.fans, [180, 0, 0, 0]);
 }
 
 /// #103 for one job that waits, or is to make a step: what a search finds and where it stops, by the
@@ -241,6 +267,7 @@ fn decode_and_encode_on_random_lists() {
     let mut counts = [0u64; 129];
     let mut longest = 0;
     let mut huge = 0;
+    let mut children = [0u64; 17];
     for seed in 0..3000 {
         let mut rng = Rng::new(20_000 + seed);
         let list = random_list(&mut rng);
@@ -257,10 +284,17 @@ fn decode_and_encode_on_random_lists() {
         counts[count as usize] += 1;
         longest = longest.max(bytes.len());
         empty_bodies += list.bodies.iter().filter(|body| body.is_empty()).count();
+        for instruction in list.bodies.iter().flatten() {
+            if let Instruction::Fan { children: c, .. } = instruction {
+                children[*c as usize] += 1;
+            }
+        }
         for s in 1..list.bodies.len() {
             huge += (task_count(&list, s) > 1_000_000) as u64;
         }
     }
+    println!("fans by children {children:?}");
+    assert!(children[1..].iter().all(|count| *count > 20) && children[0] == 0);
     assert!(empty_bodies > 100);
     assert_eq!(longest, 4805);
     assert!(huge > 100);
@@ -308,6 +342,21 @@ fn each_refusal_of_check_is_reached() {
             );
         }
     }
+}
+
+/// #104: damaged fans are among the lists that give 5: of no child, of 17, of more.
+#[test]
+fn damaged_fans_are_reached() {
+    let mut bad = [0u64; 256];
+    for seed in 0..2000 {
+        let bytes = damaged_list(&mut Rng::new(70_000 + seed), 5);
+        // The damaged instruction is often the last four bytes.
+        if let [.., 9, _, _, children] = bytes[..] {
+            bad[children as usize] += 1;
+        }
+    }
+    assert!(bad[0] > 5 && bad[17] > 5);
+    assert!(bad[18..].iter().sum::<u64>() > 5);
 }
 
 #[test]

@@ -1,6 +1,6 @@
-//! What is wrong with a text as a whole: counts, where skips end, what spawns name, and how many jobs there are.
+//! What is wrong with a text as a whole: counts, where skips end, what spawns and fans name, and how many jobs there are.
 
-use crate::{Instruction, Part, Problem, Text, SKIP, SPAWN};
+use crate::{Instruction, Part, Problem, Text, FAN, SKIP, SPAWN};
 
 pub fn check(said: &Text) -> Vec<Problem> {
     let mut problems = Vec::new();
@@ -56,14 +56,17 @@ fn crowded<T>(part: &Part<T>, message: &str, most: usize, problems: &mut Vec<Pro
 }
 
 /// "A skip from place i with b ends at i + 1 + b, at most the sheet's count. A spawn names a footprint of the list and a
-/// sheet of the list, higher than its own."
+/// sheet of the list, higher than its own." So does a fan.
 fn check_sheet(said: &Text, number: usize, sheet: &Part<Instruction>, problems: &mut Vec<Problem>) {
     let count = sheet.items.len();
     for (place, (line, instruction)) in sheet.items.iter().enumerate() {
         let message = match instruction {
             Some([SKIP, _, length, _]) => skip_problem(place, *length as usize, count),
             Some([SPAWN, child, footprint, _]) => {
-                spawn_problem(said, number, *child as usize, *footprint as usize)
+                spawn_problem(said, "spawn", number, *child as usize, *footprint as usize)
+            }
+            Some([FAN, child, footprint, _]) => {
+                spawn_problem(said, "fan", number, *child as usize, *footprint as usize)
             }
             _ => None,
         };
@@ -79,13 +82,19 @@ fn skip_problem(place: usize, length: usize, count: usize) -> Option<String> {
     (end > count).then(|| format!("skip {length}: from place {place} it ends at {end}, and the sheet has {count} instructions"))
 }
 
-fn spawn_problem(said: &Text, own: usize, child: usize, footprint: usize) -> Option<String> {
+fn spawn_problem(
+    said: &Text,
+    form: &str,
+    own: usize,
+    child: usize,
+    footprint: usize,
+) -> Option<String> {
     if child >= said.sheets.len() {
         return Some(format!("sheet {child}: this text has no such sheet"));
     }
     if child <= own {
         return Some(format!(
-            "sheet {child}: a spawn in sheet {own} names a higher sheet"
+            "sheet {child}: a {form} in sheet {own} names a higher sheet"
         ));
     }
     if footprint >= said.footprints.len() {
@@ -96,15 +105,19 @@ fn spawn_problem(said: &Text, own: usize, child: usize, footprint: usize) -> Opt
     None
 }
 
-/// "count(s) is 1 plus count(a) for each spawn in sheet s, passed over or not. count(0) is at most 128."
+/// "count(s) is 1 plus count(a) for each spawn in sheet s, passed over or not. count(0) is at most 128." Request 104: "The
+/// fan adds c × count(a) to its sheet's count".
 fn too_many_jobs(said: &Text) -> Option<Problem> {
     let mut counts = vec![0u64; said.sheets.len()];
     for (number, sheet) in said.sheets.iter().enumerate().rev() {
         let mut count = 1u64;
         for (_, instruction) in &sheet.items {
-            if let Some([SPAWN, child, _, _]) = instruction {
-                count = count.saturating_add(counts[*child as usize]);
-            }
+            let (child, times) = match instruction {
+                Some([SPAWN, child, _, _]) => (*child, 1),
+                Some([FAN, child, _, children]) => (*child, *children as u64),
+                _ => continue,
+            };
+            count = count.saturating_add(counts[child as usize].saturating_mul(times));
         }
         counts[number] = count;
     }

@@ -24,6 +24,7 @@ pub type Instruction = [u8; 4];
 
 pub const SKIP: u8 = 6;
 pub const SPAWN: u8 = 7;
+pub const FAN: u8 = 9;
 
 /// A footprint or sheet of the text: where its first line is, and its items with theirs; `None` where an item is wrong.
 #[derive(Clone, Debug)]

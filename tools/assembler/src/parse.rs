@@ -2,7 +2,7 @@
 //! item, so that it shifts no place behind it.
 
 use crate::words::{split, Words};
-use crate::{Access, Instruction, Part, Problem, Text, SKIP, SPAWN};
+use crate::{Access, Instruction, Part, Problem, Text, FAN, SKIP, SPAWN};
 
 /// What the text says, and what is wrong with single lines.
 pub fn parse(text: &str) -> (Text, Vec<Problem>) {
@@ -151,7 +151,7 @@ fn take_placed(said: &mut Text, line: usize, left: &mut Words) -> Result<(), Str
     Ok(())
 }
 
-/// "An instruction is one of nine forms, each with its own fields; fields not listed are 0."
+/// "An instruction is one of nine forms, each with its own fields; fields not listed are 0." Request 104 adds the fan.
 fn take_instruction(left: &mut Words) -> Result<Instruction, String> {
     match left.next() {
         "const" => {
@@ -184,11 +184,15 @@ fn take_instruction(left: &mut Words) -> Result<Instruction, String> {
             Ok([SKIP, test, length, 0])
         }
         "spawn" => {
-            left.expect("sheet")?;
-            let sheet = left.number("sheet", 0, 31)? as u8;
-            left.expect("with")?;
-            left.expect("footprint")?;
-            Ok([SPAWN, sheet, left.number("footprint", 0, 31)? as u8, 0])
+            let (sheet, footprint) = take_target(left)?;
+            Ok([SPAWN, sheet, footprint, 0])
+        }
+        "fan" => {
+            let (sheet, footprint) = take_target(left)?;
+            left.expect(",")?;
+            let children = left.number("children", 1, 16)? as u8;
+            left.expect("children")?;
+            Ok([FAN, sheet, footprint, children])
         }
         "wait" => {
             left.expect("entry")?;
@@ -197,6 +201,15 @@ fn take_instruction(left: &mut Words) -> Result<Instruction, String> {
         "" => Err("the line ends where an instruction is wanted".to_string()),
         word => Err(format!("`{word}` is no instruction")),
     }
+}
+
+/// The sheet and footprint of a spawn or fan.
+fn take_target(left: &mut Words) -> Result<(u8, u8), String> {
+    left.expect("sheet")?;
+    let sheet = left.number("sheet", 0, 31)? as u8;
+    left.expect("with")?;
+    left.expect("footprint")?;
+    Ok((sheet, left.number("footprint", 0, 31)? as u8))
 }
 
 /// R1 := R2 + R3, with the sign between the two.

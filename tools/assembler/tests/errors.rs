@@ -41,6 +41,14 @@ fn every_instruction() {
         bytes_of("0: wait entry R3  # behind a comment"),
         [8, 3, 0, 0]
     );
+    assert_eq!(
+        bytes_of("fan sheet 2 with footprint 1, 1 children"),
+        [9, 2, 1, 1]
+    );
+    assert_eq!(
+        bytes_of("0: fan sheet 1 with footprint 0,16 children"),
+        [9, 1, 0, 16]
+    );
 }
 
 #[test]
@@ -129,6 +137,54 @@ fn spawns() {
     assert_eq!(
         of_line("spawn sheet 1 with footprint 2"),
         ["5: footprint 2: this text has no such footprint"]
+    );
+}
+
+#[test]
+fn fans() {
+    for children in ["0", "17", "255", "256", "65537"] {
+        assert_eq!(
+            of_line(&format!(
+                "fan sheet 1 with footprint 0, {children} children"
+            )),
+            [format!("5: children {children}: it is 1 to 16")]
+        );
+    }
+    assert_eq!(
+        of_line("fan sheet 1 with footprint 0"),
+        ["5: the line ends where `,` is wanted"]
+    );
+    assert_eq!(
+        of_line("fan sheet 1 with footprint 0 3 children"),
+        ["5: `3` stands where `,` is wanted"]
+    );
+    assert_eq!(
+        of_line("fan sheet 1 with footprint 0, R1 children"),
+        ["5: `R1` stands where a number is wanted: children"]
+    );
+    assert_eq!(
+        of_line("fan sheet 1 with footprint 0, 3"),
+        ["5: the line ends where `children` is wanted"]
+    );
+    assert_eq!(
+        of_line("fan sheet 1 with footprint 0, 3 children more"),
+        ["5: `more` stands where the line ends"]
+    );
+    assert_eq!(
+        of_line("fan sheet 3 with footprint 0, 3 children"),
+        ["5: sheet 3: this text has no such sheet"]
+    );
+    assert_eq!(
+        of_line("fan sheet 0 with footprint 0, 3 children"),
+        ["5: sheet 0: a fan in sheet 0 names a higher sheet"]
+    );
+    assert_eq!(
+        of_line("fan sheet 1 with footprint 2, 3 children"),
+        ["5: footprint 2: this text has no such footprint"]
+    );
+    assert_eq!(
+        of_line("spawn sheet 1 with footprint 0, 3 children"),
+        ["5: `,` stands where the line ends"]
     );
 }
 
@@ -261,6 +317,37 @@ fn jobs() {
     assert_eq!(
         problems(&list(2)),
         ["3: the list can make 129 jobs, and at most 128 are allowed"]
+    );
+}
+
+/// Request 104: "The fan adds c × count(a) to its sheet's count".
+#[test]
+fn jobs_of_fans() {
+    // 16 × 7 + 1 and as many single ones.
+    let list = |single: usize| {
+        format!(
+            "entries 1\nfootprint 0: none\nsheet 0:\nfan sheet 1 with footprint 0, 16 children\n\
+             fan sheet 2 with footprint 0, {single} children\nsheet 1:\n\
+             fan sheet 2 with footprint 0, 6 children\nsheet 2:\n"
+        )
+    };
+    assert_eq!(problems(&list(15)), ["accepted, 29 bytes"]);
+    assert_eq!(
+        problems(&list(16)),
+        ["3: the list can make 129 jobs, and at most 128 are allowed"]
+    );
+    // 16 to the 31st.
+    let mut text = "entries 1\nfootprint 0: none\n".to_string();
+    for s in 0..31 {
+        let next = s + 1;
+        text.push_str(&format!(
+            "sheet {s}:\nfan sheet {next} with footprint 0, 16 children\n"
+        ));
+    }
+    text.push_str("sheet 31:\n");
+    assert_eq!(
+        problems(&text),
+        ["3: the list can make more than a million jobs, and at most 128 are allowed"]
     );
 }
 

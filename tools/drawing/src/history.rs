@@ -17,7 +17,8 @@ pub struct Event {
     pub word: &'static str,
     pub answer: u32,
     pub fault: u8,
-    pub child: Option<usize>,
+    /// The jobs that the call made, front to back.
+    pub children: Vec<usize>,
     pub held: Option<Held>,
     pub states: Vec<u8>,
 }
@@ -63,11 +64,12 @@ fn make_call(run: &mut Run, bytes: &[u8]) -> Event {
         word: word_of(kind, answer, instruction),
         answer,
         fault: if stepped { run.records[job].fault } else { 0 },
-        child: run
+        children: run
             .order
             .iter()
             .copied()
-            .find(|other| !order.contains(other)),
+            .filter(|other| !order.contains(other))
+            .collect(),
         held: held.filter(|_| is_hold(answer)),
         states: run.records.iter().map(|record| record.state).collect(),
     }
@@ -109,6 +111,7 @@ fn name(instruction: &Instruction) -> &'static str {
         Instruction::Skip { .. } => "skip",
         Instruction::Spawn { .. } => "spawn",
         Instruction::Wait { .. } => "wait",
+        Instruction::Fan { .. } => "fan",
     }
 }
 
@@ -238,6 +241,25 @@ mod tests {
             .map(|event| (event.word, event.answer))
             .collect();
         assert_eq!(refused, [("step", 14), ("start", 10)]);
+    }
+
+    /// A fan makes several jobs at one call; one that faults makes none.
+    #[test]
+    fn a_fan_makes_its_jobs_at_once() {
+        let jobs = second::named::fan_of_strengths();
+        let events = |calls: &[u8]| follow(&jobs, &[0; 16], calls).unwrap().events;
+        let events = events(&[0, 0, 1, 0, 1, 0, 1, 0, 1, 0]);
+        let made: Vec<(&str, Vec<usize>)> = events
+            .into_iter()
+            .map(|event| (event.word, event.children))
+            .collect();
+        assert_eq!(made[3], ("const", vec![]));
+        assert_eq!(made[4], ("fan", vec![1, 2, 3]));
+        let (jobs, library, calls) = example!("fan");
+        let events = follow(jobs, library, calls).unwrap().events;
+        let fans: Vec<&Event> = events.iter().filter(|event| event.word == "fan").collect();
+        assert_eq!(fans.len(), 1);
+        assert_eq!(fans[0].children, [1, 2, 3, 4]);
     }
 
     /// A jobs.bin of no bytes is one empty sheet.

@@ -194,7 +194,10 @@ fn look_of(event: &Event) -> &'static Look {
         Event { fault: 1.., .. } => &FAULT,
         Event { word: "start", .. } => &START,
         Event { word: "end", .. } => &END,
-        Event { word: "spawn", .. } => &SPAWN,
+        Event {
+            word: "spawn" | "fan",
+            ..
+        } => &SPAWN,
         _ => &STEP,
     }
 }
@@ -204,10 +207,11 @@ fn draw_cell(svg: &mut Svg, x: i64, y: i64, event: &Event) {
     let below = match event {
         Event { answer: 1.., .. } => event.answer.to_string(),
         Event { fault: 1.., .. } => format!("fault {}", event.fault),
-        Event {
-            child: Some(child), ..
-        } => format!("job {child}"),
-        _ => String::new(),
+        _ => match event.children[..] {
+            [] => String::new(),
+            [child] => format!("job {child}"),
+            _ => format!("{} jobs", event.children.len()),
+        },
     };
     svg.rect(x, y, CELL, CELL_HEIGHT, &format!("rx=\"4\" {}", look.cell));
     let middle = x + CELL / 2;
@@ -231,11 +235,18 @@ fn said(number: usize, event: &Event) -> String {
         ),
         Event { answer: 1.., .. } => format!("{call} is refused, {}", event.answer),
         Event { fault: 1.., .. } => format!("{call} faults, fault {}", event.fault),
-        Event {
-            child: Some(child), ..
-        } => format!("{call} makes job {child}"),
-        _ => call,
+        _ => match event.children[..] {
+            [] => call,
+            [child] => format!("{call} makes job {child}"),
+            _ => format!("{call} makes jobs {}", listed(&event.children)),
+        },
     }
+}
+
+/// Numbers with commas between them.
+fn listed(numbers: &[usize]) -> String {
+    let words: Vec<String> = numbers.iter().map(usize::to_string).collect();
+    words.join(", ")
 }
 
 fn draw_legend(svg: &mut Svg, y: i64) -> i64 {

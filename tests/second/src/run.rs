@@ -173,7 +173,7 @@ pub fn at_its_end(run: &Run, task: usize) -> bool {
 }
 
 /// The instruction at the job's place; only asked when the job is not at its end.
-fn instruction_at(run: &Run, task: usize) -> Instruction {
+pub fn instruction_at(run: &Run, task: usize) -> Instruction {
     let record = &run.records[task];
     run.list.bodies[record.body][record.pc]
 }
@@ -238,7 +238,7 @@ pub fn test_start(run: &Run, number: u32) -> Result<usize, u32> {
 }
 
 /// #102: "For a start, all entries of the footprint count".
-fn footprint_of(run: &Run, task: usize) -> Vec<usize> {
+pub fn footprint_of(run: &Run, task: usize) -> Vec<usize> {
     let mut footprint = Vec::new();
     for location in 0..run.list.locations {
         if run.records[task].modes[location] != NONE {
@@ -261,14 +261,32 @@ fn start_may_go(run: &Run, task: usize, footprint: &[usize]) -> bool {
 /// #102: "19 where a job of mode write is ahead in one of these queues, 20 for any other hold". Only
 /// asked when the job is held back.
 fn kind_of_hold(run: &Run, task: usize, locations: &[usize]) -> u32 {
-    for location in locations {
-        for other in ahead_of(run, task, *location) {
-            if run.records[other].modes[*location] == WRITE {
-                return BEHIND_A_WRITER;
+    let (writer_ahead, _) = search(run, task, locations);
+    if writer_ahead {
+        BEHIND_A_WRITER
+    } else {
+        OTHER_HOLD
+    }
+}
+
+/// #103: "the search for what holds a job back shall go from the front and stop at the first job of mode
+/// write on one of #102's entries, or at the job itself. It also tells how many jobs it looked at:
+/// exactly the place in the order where it stopped, counted from 1." Whether it stopped at a writer, and
+/// that number; only asked of a job in the order.
+pub fn search(run: &Run, task: usize, locations: &[usize]) -> (bool, usize) {
+    let mut looked = 0;
+    for other in &run.order {
+        looked += 1;
+        if *other == task {
+            return (false, looked);
+        }
+        for location in locations {
+            if run.records[*other].modes[*location] == WRITE {
+                return (true, looked);
             }
         }
     }
-    OTHER_HOLD
+    panic!("job {task} is not in the order")
 }
 
 /// "Start: ...; its state becomes 2."
@@ -296,7 +314,7 @@ pub fn test_step(run: &Run, number: u32) -> Result<usize, u32> {
 
 /// #102: "for a step, the one entry concerned"; none where the instruction never waits. Only asked when
 /// the step has no fault.
-fn entry_concerned(run: &Run, task: usize, instruction: &Instruction) -> Vec<usize> {
+pub fn entry_concerned(run: &Run, task: usize, instruction: &Instruction) -> Vec<usize> {
     let registers = run.records[task].registers;
     match instruction {
         Instruction::Load { b, .. } => vec![registers[*b as usize] as usize],

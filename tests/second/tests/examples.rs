@@ -6,7 +6,7 @@ use second::named::{
     constant, list, read_line, spawn, starts_behind_reader_and_writer,
     steps_behind_reader_and_writer, write_line, LIBRARY_P,
 };
-use second::run::{may_read, never_made, ENDED, STARTED, WAITING};
+use second::run::{may_read, never_made, search, ENDED, STARTED, WAITING};
 use second::*;
 
 /// The marked records of the empty list: C = 1, no footprints, one empty sheet.
@@ -236,6 +236,56 @@ fn each_step_behind_each_mode() {
             );
         }
     }
+}
+
+/// #103: from the front to the first writer on one of the entries, or to the job itself.
+#[test]
+fn a_search_looks_no_further_than_needed() {
+    let bytes = starts_behind_reader_and_writer();
+    let mut run = open(&bytes, &[5, 6, 7, 8]).unwrap();
+    // Job 0 alone: its own mode write never counts.
+    assert_eq!(search(&run, 0, &[0, 1, 2, 3]), (false, 1));
+    start_and_step(&mut run, 0, 6);
+    assert_eq!(run.order, [1, 2, 3, 4, 5, 6, 0]);
+    for (task, footprint, found) in [
+        (1, &[0, 2, 3][..], (false, 1)),
+        // The job's own mode write, and readers ahead, don't stop it.
+        (2, &[1], (false, 2)),
+        (3, &[2], (false, 3)),
+        // A writer on the last entry of the footprint, a reader nearer to the front on the first.
+        (4, &[0, 1], (true, 2)),
+        (5, &[1, 3], (true, 2)),
+        // No entry.
+        (6, &[], (false, 6)),
+        (0, &[0, 1, 2, 3], (true, 2)),
+        // One entry concerned: the first writer on it, whoever stands ahead of that one.
+        (0, &[0], (true, 4)),
+        (0, &[1], (true, 2)),
+        (0, &[2], (true, 3)),
+        (0, &[3], (true, 5)),
+        // The first in the order, not the first by entry.
+        (0, &[3, 2], (true, 3)),
+    ] {
+        assert_eq!(
+            search(&run, task, footprint),
+            found,
+            "job {task} {footprint:?}"
+        );
+    }
+    // Whether the writer waits or has started does not matter.
+    assert_eq!(start(&mut run, 2), Ok(()));
+    assert_eq!(search(&run, 4, &[0, 1]), (true, 2));
+    // When it has ended the places move up, and the search goes on to the job itself.
+    assert_eq!(end(&mut run, 2), Ok(()));
+    assert_eq!(run.order, [1, 3, 4, 5, 6, 0]);
+    assert_eq!(search(&run, 4, &[0, 1]), (false, 3));
+    assert_eq!(search(&run, 0, &[1]), (false, 6));
+    // P: "start 2 now gives 19", after a look at one job.
+    let mut run = open(&EXAMPLE_P, &LIBRARY_P).unwrap();
+    start_and_step(&mut run, 0, 2);
+    assert_eq!(search(&run, 2, &[0, 1]), (true, 1));
+    assert_eq!(search(&run, 1, &[0]), (false, 1));
+    assert_eq!(search(&run, 0, &[1]), (true, 2));
 }
 
 #[test]

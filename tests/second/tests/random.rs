@@ -4,7 +4,10 @@ use second::cases::*;
 use second::coordinator::call;
 use second::list::task_count;
 use second::rng::Rng;
-use second::run::{ENDED, RECORDS};
+use second::run::{
+    at_its_end, entry_concerned, footprint_of, instruction_at, queue_of, search, test_start,
+    test_step, ENDED, RECORDS, STARTED, WAITING, WRITE,
+};
 use second::*;
 
 /// "Some call would be accepted when, for some number 0 to 127, its start, step or end on that run
@@ -135,6 +138,66 @@ fn demand_3_on_the_doubling_trees() {
         }
     }
     assert_eq!(met.most_jobs, 128);
+}
+
+/// #103 for one job that waits, or is to make a step: what a search finds and where it stops, by the
+/// queues alone; and what the call answers. How often a search stopped at a writer and at the job.
+fn assert_search(run: &Run, task: usize, stops: &mut [u64; 2]) {
+    let (entries, answer) = if run.records[task].state == WAITING {
+        (footprint_of(run, task), test_start(run, task as u32))
+    } else {
+        let instruction = instruction_at(run, task);
+        let answer = test_step(run, task as u32);
+        // A fault comes before any look at the order.
+        let mut copy = run.clone();
+        let _ = call(&mut copy, 1, task as u32);
+        if copy.records[task].fault != 0 {
+            return;
+        }
+        (entry_concerned(run, task, &instruction), answer)
+    };
+    let place = |job: usize| 1 + run.order.iter().position(|other| *other == job).unwrap();
+    let mut writers = Vec::new();
+    for entry in &entries {
+        for other in queue_of(run, *entry) {
+            if place(other) < place(task) && run.records[other].modes[*entry] == WRITE {
+                writers.push(place(other));
+            }
+        }
+    }
+    let first = writers.iter().copied().min();
+    let (writer_ahead, looked) = search(run, task, &entries);
+    assert_eq!(writer_ahead, first.is_some());
+    assert_eq!(looked, first.unwrap_or(place(task)));
+    match answer {
+        // A writer ahead on an entry concerned always holds back.
+        Ok(_) => assert!(!writer_ahead && looked == place(task)),
+        Err(refusal) => assert_eq!(refusal, if writer_ahead { 19 } else { 20 }),
+    }
+    stops[writer_ahead as usize] += 1;
+}
+
+#[test]
+fn searches_on_random_runs() {
+    let mut stops = [0; 2];
+    for seed in 0..400 {
+        let mut rng = Rng::new(60_000 + seed);
+        let bytes = accepted_file(&mut rng);
+        let library = fitting_library(&mut rng, &bytes);
+        let strategy = rng.pick(&STRATEGIES);
+        let mut run = open(&bytes, &library).unwrap();
+        while let Some((kind, task)) = sensible_call(&mut rng, strategy, &run, 0) {
+            assert_eq!(call(&mut run, kind, task), Ok(()));
+            for task in &run.order {
+                let to_step = run.records[*task].state == STARTED && !at_its_end(&run, *task);
+                if run.records[*task].state == WAITING || to_step {
+                    assert_search(&run, *task, &mut stops);
+                }
+            }
+        }
+    }
+    println!("stopped at the job and at a writer {stops:?}");
+    assert!(stops.iter().all(|count| *count > 1000));
 }
 
 #[test]

@@ -15,8 +15,6 @@ use Rattle.semantics.specs.declared.CallRefusal.{CallRefusal}
 use Rattle.semantics.specs.declared.Answer.the-variants as Answers
 use Rattle.semantics.specs.Run.{context, weight-of}
 use Rattle.semantics.specs.Plan.{step, units}
-use Rattle.semantics.specs.Call.{refuse}
-use Rattle.semantics.specs.Answers.{refusal-number}
 use Rattle.semantics.proofs.Bounds.{fixed-light}
 use Rattle.runtime.specs.declared.Run.{Run}
 use Rattle.runtime.specs.declared.Called.{Called}
@@ -28,7 +26,7 @@ use Rattle.runtime.specs.View.{SoundRun}
 use Rattle.runtime.specs.Calls.{decided, CalledAs}
 use Rattle.runtime.specs.Parts.{Placed, record-of}
 use Rattle.runtime.specs.Steps.{planned, passed, failed, holding, PlansIn}
-use Rattle.runtime.specs.Changes.{with-parts, finished, kept, counted, put, with-children, with-made, ChangeOf, ReadyIn, Fits, SpawnedBy, SteppedBy}
+use Rattle.runtime.specs.Changes.{with-parts, finished, kept, counted, put, with-children, with-made, ChangeOf, ReadyIn, SpawnedBy, SteppedBy}
 use Rattle.runtime.proofs.CallLaws.{called-refused}
 use Rattle.runtime.proofs.StepLaws.{step-settled}
 use Rattle.runtime.proofs.ChangeLaws.{step-refused, step-held, step-fault, step-assign, step-pass, step-store, step-spawn, none-fits, ends}

@@ -19,6 +19,11 @@ first-job = record { number = 0; body = 0; footprint = 0; spawner = 0; place = 0
 unfoldable pub number-at : Tables → Job → ℕ → ℕ
 number-at t j i = j .number + 1 + total (adds (λ a. getD (t .counts) a 1)) (take i (body-of (list-of t) (j .body)))
 
+-- a task's child of number n: that of a spawn at place i, or child 0 of a fan of c children there
+abbrev pub child-of : Job → ℕ → ℕ → ℕ → ℕ → ℕ → ℕ → Job
+child-of j i n d a b c =
+    record { number = n; body = a; footprint = b; spawner = j .number; place = i; child = 0; children = c; depth = d }
+
 -- request 104: "child i starts at i × count(a) within that block": the child whose block holds k, from the fan's child 0
 unfoldable pub fanned : Tables → ℕ → Job → Job
 fanned t k j =
@@ -45,11 +50,9 @@ made t j i n k d (Less a b c) = j
 made t j i n k d (Load a b) = j
 made t j i n k d (Store a b) = j
 made t j i n k d (Skip a b) = j
-made t j i n k d (Spawn a b) =
-    record { number = n; body = a; footprint = b; spawner = j .number; place = i; child = 0; children = 0; depth = d }
+made t j i n k d (Spawn a b) = child-of j i n d a b 0
 made t j i n k d (Wait a) = j
-made t j i n k d (Fan a b c) =
-    fanned t k (record { number = n; body = a; footprint = b; spawner = j .number; place = i; child = 0; children = c; depth = d })
+made t j i n k d (Fan a b c) = fanned t k (child-of j i n d a b c)
 
 -- the first place whose block ends above k
 unfoldable pub place-of : Tables → Job → ℕ → ℕ

@@ -2,7 +2,7 @@
 ghost use Prim.Native.Nat.{_+_, _-_, _/_, _≤_, _<_};
 ghost use mathlib.Core.Path.{_≡_};
 ghost use lib.ListN.{getD};
-ghost use Rattle.explain.specs.Jobs.{first-job, fanned, made, holder, numbered};
+ghost use Rattle.explain.specs.Jobs.{first-job, child-of, fanned, made, holder, numbered};
 use crate::Job;
 use listing::body_size;
 use listing::instruction_at;
@@ -15,6 +15,30 @@ fn wide(x: u8) -> usize
     ensures { λ r. ⌜ (r ≡ x) × (r < 256) ⌝ }
 {
     x as usize
+}
+
+// The child that a spawn at `place` of `job`'s body makes, or the first one of a fan of so many children.
+fn child_of(
+    job: Job,
+    place: usize,
+    number: usize,
+    depth: usize,
+    body: u8,
+    footprint: u8,
+    children: u8,
+) -> Job
+    ensures { λ r. ⌜ r ≡ child-of job place number depth body footprint children ⌝ }
+{
+    Job {
+        number,
+        body: body as usize,
+        footprint: footprint as usize,
+        spawner: job.number,
+        place,
+        child: 0,
+        children: children as usize,
+        depth,
+    }
 }
 
 // How many whole blocks of `count` numbers there are among `numbers`, none where the blocks are empty.
@@ -80,16 +104,9 @@ fn made_by(
             source: _,
         } => job,
         Instruction::Skip { test: _, length: _ } => job,
-        Instruction::Spawn { body, footprint } => Job {
-            number,
-            body: body as usize,
-            footprint: footprint as usize,
-            spawner: job.number,
-            place,
-            child: 0,
-            children: 0,
-            depth,
-        },
+        Instruction::Spawn { body, footprint } => {
+            child_of(job, place, number, depth, body, footprint, 0)
+        }
         Instruction::Wait { place: _ } => job,
         Instruction::Fan {
             body,
@@ -98,16 +115,7 @@ fn made_by(
         } => fanned_to(
             tables,
             k,
-            Job {
-                number,
-                body: body as usize,
-                footprint: footprint as usize,
-                spawner: job.number,
-                place,
-                child: 0,
-                children: children as usize,
-                depth,
-            },
+            child_of(job, place, number, depth, body, footprint, children),
         ),
     }
 }

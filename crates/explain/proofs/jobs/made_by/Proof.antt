@@ -1,7 +1,10 @@
 -- By the instruction's case: a spawn makes a task, a fan several, any other leaves the one that stands.
 -- Assumes nothing.
-use mathlib.Core.Path.{sym, ap, _∙_}
-use Rattle.explain.specs.Jobs.{made}
+use Prim.Native.Nat.{ℕ, _≤_}
+use mathlib.Core.Path.{_≡_, sym, ap, _∙_}
+use native.Mathlib.Omega.{arith}
+use Rattle.explain.specs.declared.Job.{Job}
+use Rattle.explain.specs.Jobs.{fanned, made}
 use borrow.Author.Needs.{needs}
 use Rattle.explain.proofs.jobs.made_by.Statement.{statement}
 use Rattle.explain.proofs.jobs.made_by.Tie as tie
@@ -30,11 +33,8 @@ enum-told-7 c = search needs
 enum-known-instruction : tie.Need-enum-known-instruction
 enum-known-instruction c = search needs
 
-cast-t14 : tie.Need-cast-t14
-cast-t14 c = search needs
-
-cast-t15 : tie.Need-cast-t15
-cast-t15 c = search needs
+child-of-requires : tie.Need-child-of-requires
+child-of-requires c κs = search needs
 
 enum-told-8 : tie.Need-enum-told-8
 enum-told-8 c = search needs
@@ -42,17 +42,13 @@ enum-told-8 c = search needs
 enum-known-instruction-2 : tie.Need-enum-known-instruction-2
 enum-known-instruction-2 c = search needs
 
-cast-t16 : tie.Need-cast-t16
-cast-t16 c = search needs
-
-cast-t17 : tie.Need-cast-t17
-cast-t17 c = search needs
-
-cast-t18 : tie.Need-cast-t18
-cast-t18 c = search needs
+child-of-requires-2 : tie.Need-child-of-requires-2
+child-of-requires-2 c κs = search needs
 
 fanned-to-requires : tie.Need-fanned-to-requires
-fanned-to-requires c κs = search needs
+fanned-to-requires c κs =
+    let n = ap (λ (j : Job). j .number) (c .child-of2 .ensures) in
+    (omega (arith, n), omega arith)
 
 returns : tie.Need-returns
 unfolding made
@@ -84,7 +80,9 @@ returns-7 c = let a = c .before .before .args in ap (made (a .tables) (a .job) (
 
 returns-8 : tie.Need-returns-8
 unfolding made
-returns-8 c = let a = c .before .before .before .args in ap (made (a .tables) (a .job) (a .place) (a .number) (a .k) (a .depth)) (sym (c .before .instruction .given .1))
+returns-8 c =
+    let a = c .before .before .before .before .args in
+    c .child-of .ensures ∙ ap (made (a .tables) (a .job) (a .place) (a .number) (a .k) (a .depth)) (sym (c .before .before .instruction .given .1))
 
 returns-9 : tie.Need-returns-9
 unfolding made
@@ -93,8 +91,9 @@ returns-9 c = let a = c .before .before .args in ap (made (a .tables) (a .job) (
 returns-10 : tie.Need-returns-10
 unfolding made
 returns-10 c =
-    let a = c .before .before .before .before .args in
-    c .fanned-to .ensures ∙ ap (made (a .tables) (a .job) (a .place) (a .number) (a .k) (a .depth)) (sym (c .before .before .instruction2 .given .1))
+    let a = c .before .before .before .before .before .args in
+    c .fanned-to .ensures ∙ ap (fanned (a .tables) (a .k)) (c .before .child-of2 .ensures) ∙
+    ap (made (a .tables) (a .job) (a .place) (a .number) (a .k) (a .depth)) (sym (c .before .before .before .instruction2 .given .1))
 
 pub made-by-spec : {M : Type 1} → statement M
 made-by-spec =
@@ -108,13 +107,10 @@ made-by-spec =
     enum-told-6
     enum-told-7
     enum-known-instruction
-    cast-t14
-    cast-t15
+    child-of-requires
     enum-told-8
     enum-known-instruction-2
-    cast-t16
-    cast-t17
-    cast-t18
+    child-of-requires-2
     fanned-to-requires
     returns
     returns-2

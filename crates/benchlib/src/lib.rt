@@ -11,7 +11,7 @@ use sequence::sequential;
 pub extern "C" fn bench_open(list: &[u8], memory: &[u32]) -> usize
     ensures { λ r. ⌜ r ≡ left-in (open-asked (now (list .entry)) (now (memory .entry))) ⌝ }
 {
-    let opened = runtime::open(list, memory);
+    let opened = fresh::open(list, memory);
     opened.run.left
 }
 
@@ -38,7 +38,7 @@ pub extern "C" fn bench_replay(list: &[u8], memory: &[u32], kinds: &[u8], tasks:
 pub extern "C" fn bench_lent(list: &[u8], memory: &[u32], input: &[u8]) -> u32
     ensures { λ r. ⌜ r ≡ calls-in (lent-asked (now (list .entry)) (now (memory .entry)) (now (input .entry))) ⌝ }
 {
-    let opened = runtime::open(list, memory);
+    let opened = fresh::open(list, memory);
     let fresh = opened.run;
     // no task is left in the blank run of a refused open
     if fresh.left == 0 {

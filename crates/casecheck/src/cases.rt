@@ -84,7 +84,7 @@ fn put_hand(hand: Opened, out: &mut [u8; 4096], at: usize) -> usize {
 
 // The lines of a case behind its number.
 fn put_opened(list: &[u8], memory: &[u32], calls: &[u8], out: &mut [u8; 4096], at: usize) -> usize {
-    let opened = runtime::open(list, memory);
+    let opened = fresh::open(list, memory);
     let answer = opened.answer;
     let k = open_number(answer);
     let mut o = put_text(out, at, b"open");

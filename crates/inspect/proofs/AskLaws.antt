@@ -21,14 +21,14 @@ use Rattle.semantics.specs.Access.{Access, only, queue}
 use Rattle.semantics.specs.Operations.{denies, gives, record-asked, queue-places, queue-asked, search-asked}
 use Rattle.semantics.specs.Answers.{refusal-number, task-from}
 use Rattle.semantics.proofs.Order.{among-in}
-use Rattle.tables.specs.declared.Place.{Place}
-use Rattle.tables.specs.declared.Place.the-variants as Places
-use Rattle.tables.specs.declared.Searched.{Searched}
-use Rattle.tables.specs.Rows.{row}
-use Rattle.tables.specs.Places.{place-of}
-use Rattle.tables.specs.Ahead.{searched-ahead, found-of}
-use Rattle.tables.proofs.SpliceLaws.{placed, unplaced}
-use Rattle.tables.proofs.SearchLaws.{search-by}
+use Rattle.arrays.specs.declared.Place.{Place}
+use Rattle.arrays.specs.declared.Place.the-variants as Places
+use Rattle.ahead.specs.declared.Searched.{Searched}
+use Rattle.arrays.specs.Rows.{row}
+use Rattle.arrays.specs.Places.{place-of}
+use Rattle.ahead.specs.Ahead.{searched-ahead, found-of}
+use Rattle.arrays.proofs.SpliceLaws.{placed, unplaced}
+use Rattle.ahead.proofs.SearchLaws.{search-by}
 use Rattle.runtime.specs.declared.Run.{Run}
 use Rattle.runtime.specs.declared.Queued.the-variants as Queueing
 use Rattle.runtime.specs.View.{model, context-of, blank-record}

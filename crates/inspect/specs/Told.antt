@@ -2,7 +2,7 @@
 use Rattle.semantics.specs.Operations.{Asked, denies, gives}
 use Rattle.semantics.specs.Search.{Found}
 use Rattle.semantics.specs.Answers.{refusal-number}
-use Rattle.tables.specs.Ahead.{found-of}
+use Rattle.ahead.specs.Ahead.{found-of}
 use Rattle.inspect.specs.declared.SearchAnswer.{SearchAnswer}
 use Rattle.inspect.specs.declared.SearchAnswer.the-variants as Telling
 

@@ -7,19 +7,19 @@ ghost use Rattle.tasklist.specs.Encode.{encode};
 ghost use Rattle.tasklist.specs.Tables.{list-of};
 ghost use Rattle.tasklist.specs.Answers.{written, write-answer, write-places};
 ghost use Rattle.semantics.specs.Operations.{record-asked, queue-asked, search-asked};
-ghost use Rattle.tables.specs.Ahead.{accesses-of};
+ghost use Rattle.ahead.specs.Ahead.{accesses-of};
 ghost use Rattle.runtime.specs.View.{model, context-of};
 ghost use Rattle.runtime.specs.Asked.{recorded, QueuedAs};
 ghost use Rattle.runtime.specs.Parts.{shown, all-shown};
 ghost use Rattle.inspect.specs.Told.{told};
+use ahead::Searched;
+use ahead::Wanted;
+use arrays::Place;
 use runtime::Queued;
 use runtime::Recorded;
 use runtime::Run;
 use semantics::Answer;
 use semantics::CallRefusal;
-use tables::Place;
-use tables::Searched;
-use tables::Wanted;
 use tasklist::Written;
 
 // What a task's search found, or why there is none.
@@ -58,7 +58,7 @@ fn queue_length(run: Run, location: usize) -> usize
     let mut i = 0;
     while i < left {
         let task = wide(run.order[i]);
-        let mode = tables::mode_at(&run.modes, task, location);
+        let mode = arrays::mode_at(&run.modes, task, location);
         n += width(mode);
         i += 1;
     }
@@ -87,7 +87,7 @@ fn put_queue(run: Run, location: usize, out: &mut [u16])
     let mut i = 0;
     while i < left {
         let task = run.order[i];
-        let mode = tables::mode_at(&run.modes, wide(task), location);
+        let mode = arrays::mode_at(&run.modes, wide(task), location);
         at = put_place(out, at, task, mode);
         i += 1;
     }
@@ -98,7 +98,7 @@ pub fn task_record(run: Run, task: u32) -> Recorded
     ensures { λ r. ⌜ recorded r ≡ record-asked (model run) task ⌝ }
 {
     if 127 < task {
-        let zero = runtime::blank_record();
+        let zero = fresh::blank_record();
         return Recorded {
             answer: Answer::Refused {
                 refusal: CallRefusal::Number,
@@ -109,7 +109,7 @@ pub fn task_record(run: Run, task: u32) -> Recorded
     }
     let n = task as usize;
     let own = run.records[n];
-    let modes = tables::row_of(&run.modes, n);
+    let modes = arrays::row_of(&run.modes, n);
     Recorded {
         answer: Answer::Accepted,
         task: own,
@@ -138,8 +138,8 @@ pub fn location_queue(run: Run, location: u32, out: &mut [u16]) -> Queued
     Queued::Places(n)
 }
 
-// The search of a task for what holds these accesses back, those of its start (`tables::wanted_of`) or the one of its step
-// (`tables::wanted_at`): 9 number above 127, 10 not in the order.
+// The search of a task for what holds these accesses back, those of its start (`ahead::wanted_of`) or the one of its step
+// (`ahead::wanted_at`): 9 number above 127, 10 not in the order.
 pub fn task_search(run: Run, task: u32, wanted: Wanted) -> SearchAnswer
     ensures { λ r. ⌜ told r ≡ search-asked (model run) task (accesses-of wanted) ⌝ }
 {
@@ -148,13 +148,13 @@ pub fn task_search(run: Run, task: u32, wanted: Wanted) -> SearchAnswer
             refusal: CallRefusal::Number,
         };
     }
-    let place = tables::position(&run.order, run.left, task as u8);
+    let place = arrays::position(&run.order, run.left, task as u8);
     match place {
         Place::Absent => SearchAnswer::Refused {
             refusal: CallRefusal::Absent,
         },
         Place::At(at) => {
-            let searched = tables::search_ahead(&run.order, at, &run.modes, wanted);
+            let searched = ahead::search_ahead(&run.order, at, &run.modes, wanted);
             SearchAnswer::Found { searched }
         }
     }

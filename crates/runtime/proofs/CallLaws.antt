@@ -31,14 +31,14 @@ use Rattle.semantics.proofs.SoundKept.{sound-kept}
 use Rattle.semantics.proofs.Bounds.{order-below, calls-most, fixed-light, weight-most, weights-most}
 use Rattle.semantics.proofs.Unchanged.{after-refuse, after-accept}
 use Rattle.semantics.proofs.Search.{Asks, start-asks}
-use Rattle.tables.specs.Rows.{row}
-use Rattle.tables.specs.Places.{without, place-of}
-use Rattle.tables.specs.Ahead.{hold-ahead}
-use Rattle.tables.specs.declared.Hold.{Hold}
-use Rattle.tables.specs.declared.Place.{Place}
-use Rattle.tables.specs.declared.Place.the-variants as Places
-use Rattle.tables.proofs.SpliceLaws.{placed, unplaced, without-splice}
-use Rattle.tables.proofs.SearchLaws.{outcome-by, admit-by}
+use Rattle.arrays.specs.Rows.{row}
+use Rattle.arrays.specs.Places.{without, place-of}
+use Rattle.ahead.specs.Ahead.{hold-ahead}
+use Rattle.ahead.specs.declared.Hold.{Hold}
+use Rattle.arrays.specs.declared.Place.{Place}
+use Rattle.arrays.specs.declared.Place.the-variants as Places
+use Rattle.arrays.proofs.SpliceLaws.{placed, unplaced, without-splice}
+use Rattle.ahead.proofs.SearchLaws.{outcome-by, admit-by}
 use Rattle.runtime.specs.declared.Run.{Run}
 use Rattle.runtime.specs.declared.Called.{Called}
 use Rattle.runtime.specs.View.{tasks-from, model, context-of, SoundRun, blank-record}

@@ -19,7 +19,7 @@ use Rattle.semantics.specs.Footprint.{Children, none-made, all-made, children, 
 use Rattle.semantics.specs.Plan.{step, plan-make}
 use Rattle.semantics.specs.Call.{Outcome, refuse, accept, admit, settle, edited, charged, written, splice, stays, places, changes, apply}
 use Rattle.semantics.specs.Answers.{task-from}
-use Rattle.tables.specs.Rows.{row}
+use Rattle.arrays.specs.Rows.{row}
 use Rattle.tables.specs.Children.{seen-from}
 use Rattle.runtime.specs.declared.Run.{Run}
 use Rattle.runtime.specs.declared.StepPlan.{StepPlan}

@@ -23,7 +23,7 @@ use Rattle.semantics.specs.Sequential.{made-by}
 use Rattle.semantics.specs.Answers.{refusal-number}
 use Rattle.semantics.proofs.Bounds.{calls-most, weight-most}
 use Rattle.semantics.proofs.Unchanged.{after-refuse}
-use Rattle.tables.specs.Places.{without}
+use Rattle.arrays.specs.Places.{without}
 use Rattle.tables.specs.Children.{numbers}
 use Rattle.runtime.specs.declared.Run.{Run}
 use Rattle.runtime.specs.declared.Called.{Called}

@@ -1,7 +1,5 @@
 -- Laws that the proofs of the functions cite.
-pub mod StateLaws
 pub mod ViewLaws
-pub mod OpenLaws
 pub mod CallLaws
 pub mod StepLaws
 pub mod CarryLaws

@@ -24,14 +24,15 @@ use Rattle.semantics.specs.Sound.{In}
 use Rattle.semantics.proofs.Decide.{Accepts, decide-accept}
 use Rattle.semantics.proofs.Bounds.{room}
 use Rattle.semantics.proofs.Valid.{number-above, made-future, made-below}
-use Rattle.tables.specs.Places.{insert-all}
-use Rattle.tables.specs.Rows.{row, with, with-rows}
+use Rattle.tables.specs.Children.{insert-all}
+use Rattle.arrays.specs.Rows.{row, with}
+use Rattle.tables.specs.Children.{with-rows}
 use Rattle.tables.specs.Grants.{granted-by, grant-of, child-registers, child-grant, grants-from}
 use Rattle.tables.specs.Children.{seen-by, seen-from, numbers, Fit, RowsOf}
 use Rattle.tables.specs.Numbers.{number-by}
 use Rattle.tables.specs.declared.Grant.the-variants as Granted
 use Rattle.tables.specs.declared.Granting.{Granting}
-use Rattle.tables.proofs.RowLaws.{with-length, row-with, row-with-other}
+use Rattle.arrays.proofs.RowLaws.{with-length, row-with, row-with-other}
 use Rattle.tables.proofs.NumberLaws.{number-holds}
 use Rattle.tables.proofs.ChildLaws.{modes-in, list-from, child-length, given, born, AllBorn, children-denied, children-granted, insert-all-splice}
 use Rattle.runtime.specs.declared.Run.{Run}

@@ -11,8 +11,9 @@ use Rattle.semantics.specs.declared.Answer.the-variants as Answers
 use Rattle.semantics.specs.Run.{no-modes}
 use Rattle.semantics.specs.Footprint.{granted}
 use Rattle.semantics.specs.Plan.{step}
-use Rattle.tables.specs.Places.{insert-all}
-use Rattle.tables.specs.Rows.{row, with-rows}
+use Rattle.tables.specs.Children.{insert-all}
+use Rattle.arrays.specs.Rows.{row}
+use Rattle.tables.specs.Children.{with-rows}
 use Rattle.tables.specs.Grants.{grant-of, child-grant, grants-from}
 use Rattle.tables.specs.Children.{numbers, Fit, RowsOf}
 use Rattle.tables.specs.Numbers.{number-by}

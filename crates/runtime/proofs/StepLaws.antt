@@ -26,14 +26,14 @@ use Rattle.semantics.specs.Call.{refuse, accept, admit, settle}
 use Rattle.semantics.specs.Sound.{In}
 use Rattle.semantics.proofs.SoundModes.{none-grants}
 use Rattle.semantics.proofs.Search.{Asks}
-use Rattle.tables.specs.Rows.{row}
-use Rattle.tables.specs.Ahead.{access, accesses-of, hold-ahead}
-use Rattle.tables.specs.declared.Hold.{Hold}
-use Rattle.tables.specs.declared.Wanted.{Wanted}
+use Rattle.arrays.specs.Rows.{row}
+use Rattle.ahead.specs.Ahead.{access, accesses-of, hold-ahead}
+use Rattle.ahead.specs.declared.Hold.{Hold}
+use Rattle.ahead.specs.declared.Wanted.{Wanted}
 use Rattle.tables.specs.Children.{seen-from}
-use Rattle.tables.proofs.RowLaws.{row-past}
+use Rattle.arrays.proofs.RowLaws.{row-past}
 use Rattle.tables.proofs.ChildLaws.{seen-alone, seen-fan}
-use Rattle.tables.proofs.SearchLaws.{outcome-by}
+use Rattle.ahead.proofs.SearchLaws.{outcome-by}
 use Rattle.tables.proofs.GrantLaws.{own-other}
 use Rattle.runtime.specs.declared.Run.{Run}
 use Rattle.runtime.specs.declared.Access.the-variants as Found

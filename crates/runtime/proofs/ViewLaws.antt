@@ -12,8 +12,8 @@ use Rattle.semantics.specs.declared.Record.{Record}
 use Rattle.semantics.specs.Run.{Task, never, no-modes, mode-of, task-of}
 use Rattle.semantics.specs.Run as Semantics
 use Rattle.semantics.specs.Answers.{task-from}
-use Rattle.tables.specs.Rows.{row}
-use Rattle.tables.proofs.RowLaws.{row-beyond}
+use Rattle.arrays.specs.Rows.{row}
+use Rattle.arrays.proofs.RowLaws.{row-beyond}
 use Rattle.runtime.specs.declared.Run.{Run}
 use Rattle.runtime.specs.View.{tasks-from, model, blank-record}
 

@@ -14,8 +14,8 @@ use Rattle.semantics.specs.Effect.{Effect, own, in-state, leaving}
 use Rattle.semantics.specs.Plan.{Action}
 use Rattle.semantics.specs.Call.{among, refuse, accept}
 use Rattle.semantics.specs.Answers.{refusal-number}
-use Rattle.tables.specs.Places.{without}
-use Rattle.tables.specs.Rows.{row}
+use Rattle.arrays.specs.Places.{without}
+use Rattle.arrays.specs.Rows.{row}
 use Rattle.runtime.specs.declared.Run.{Run}
 use Rattle.runtime.specs.declared.Located.{Located}
 use Rattle.runtime.specs.declared.Located.the-variants.{Refused, At}

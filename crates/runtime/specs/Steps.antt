@@ -17,10 +17,10 @@ use Rattle.semantics.specs.Footprint.{children, first-register}
 use Rattle.semantics.specs.Plan.{step, plan-instruction, plan-make}
 use Rattle.semantics.specs.Call.{Outcome, refuse, accept, admit, settle, apply}
 use Rattle.semantics.specs.Answers.{refusal-number}
-use Rattle.tables.specs.Ahead.{access}
+use Rattle.ahead.specs.Ahead.{access}
 use Rattle.tables.specs.Children.{seen-from}
-use Rattle.tables.specs.Places.{insert-at}
-use Rattle.tables.specs.Rows.{with}
+use Rattle.arrays.specs.Places.{insert-at}
+use Rattle.arrays.specs.Rows.{with}
 use Rattle.runtime.specs.declared.Run.{Run}
 use Rattle.runtime.specs.declared.Access.{Access}
 use Rattle.runtime.specs.declared.Access.the-variants as Found

@@ -10,7 +10,7 @@ use Rattle.semantics.specs.Run.{Task, Context, context}
 use Rattle.semantics.specs.Run as Semantics
 use Rattle.semantics.specs.Answers.{task-from}
 use Rattle.semantics.specs.Sound.{Sound}
-use Rattle.tables.specs.Rows.{row}
+use Rattle.arrays.specs.Rows.{row}
 use Rattle.runtime.specs.declared.Run.{Run}
 
 -- "The tables are whole arrays: 128 records, 8,192 modes": the tasks from number k on, each record with its row of modes

@@ -11,11 +11,11 @@ use crate::Run;
 use crate::carry::changed;
 use crate::carry::in_state;
 use crate::carry::unchanged;
+use ahead::Hold;
+use arrays::Place;
 use semantics::Answer;
 use semantics::CallRefusal;
 use semantics::Record;
-use tables::Hold;
-use tables::Place;
 
 // "start 5, end 2, codes 0 to 8: 1, 1, 1, 1, 3, 4, 1, 8, 1"; request 104: 8 for each child of a fan
 pub const WEIGHTS: [u32; 12] = [5, 2, 1, 1, 1, 1, 3, 4, 1, 8, 1, 8];
@@ -29,7 +29,7 @@ pub fn place_of(order: &[u8; 128], left: usize, task: u32) -> Located
             refusal: CallRefusal::Number,
         };
     }
-    let found = tables::position(order, left, task as u8);
+    let found = arrays::position(order, left, task as u8);
     match found {
         Place::Absent => Located::Refused {
             refusal: CallRefusal::Absent,
@@ -67,8 +67,8 @@ fn start_look<'a>(
                     refusal: CallRefusal::Started,
                 };
             }
-            let wanted = tables::wanted_of(modes, task as usize);
-            let searched = tables::search_ahead(order, place, modes, wanted);
+            let wanted = ahead::wanted_of(modes, task as usize);
+            let searched = ahead::search_ahead(order, place, modes, wanted);
             let hold = searched.hold;
             match hold {
                 Hold::Free => Located::At { place },
@@ -142,7 +142,7 @@ pub fn end_change(order: &mut [u8; 128], left: usize, own: Record, size: usize, 
         Located::Refused { refusal } => unchanged(own, left, refusal),
         Located::At { place } => {
             let next = in_state(own, 3);
-            tables::remove(order, left, place);
+            arrays::remove(order, left, place);
             changed(next, fewer(left), WEIGHTS[1])
         }
     }

@@ -158,7 +158,7 @@ pub fn spawned(
     requires { ⌜ task < 128 ⌝ }
     ensures { λ r. ⌜ SpawnedBy tables (now (modes .entry)) (now (order .entry)) (now (modes .exit)) (now (order .exit)) left own task place body footprint first children weight r ⌝ }
 {
-    let row = tables::row_of(modes, task);
+    let row = arrays::row_of(modes, task);
     let seen = holding(own, 0, first);
     let registers = seen.registers;
     let granting = tables::granted_all(tables, footprint as usize, registers, row, children);

@@ -119,15 +119,11 @@ pub struct Change {
 
 mod calls;
 mod carry;
-mod opening;
 mod parts;
-mod state;
 mod step;
 
 pub use calls::at_end;
 pub use calls::end_change;
 pub use calls::start_change;
 pub use carry::child_record;
-pub use opening::open;
-pub use state::blank_record;
 pub use step::step_change;

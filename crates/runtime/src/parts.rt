@@ -11,8 +11,8 @@ ghost use Rattle.semantics.specs.Plan.{passed-over, units};
 ghost use Rattle.runtime.specs.Steps.{AccessIn, PlansIn, FreeAs, WaitIn};
 use crate::Access;
 use crate::StepPlan;
+use ahead::Hold;
 use semantics::CallRefusal;
-use tables::Hold;
 use tasklist::Instruction;
 
 // A constant as 32 bits.
@@ -163,13 +163,13 @@ fn access_of<'a>(
 ) -> Access
     ensures { λ r. ⌜ AccessIn (now (order .entry)) (now (modes .entry)) task place location asked r ⌝ }
 {
-    let own = tables::mode_at(modes, task, location);
+    let own = arrays::mode_at(modes, task, location);
     let fault = tables::access_fault(own, asked);
     if fault != 0 {
         return Access::Fault { fault };
     }
-    let wanted = tables::wanted_at(location, asked);
-    let searched = tables::search_ahead(order, place, modes, wanted);
+    let wanted = ahead::wanted_at(location, asked);
+    let searched = ahead::search_ahead(order, place, modes, wanted);
     let hold = searched.hold;
     match hold {
         Hold::Free => Access::Free,
@@ -246,7 +246,7 @@ fn wait_plan<'a>(
     ensures { λ r. ⌜ ((m : List ℕ) → PlansIn (now (order .entry)) (now (modes .entry)) m registers task place (Wait at) r) ⌝ }
 {
     let location = tables::register_at(registers, at) as usize;
-    let asked = tables::mode_at(modes, task, location);
+    let asked = arrays::mode_at(modes, task, location);
     let found = access_of(order, modes, task, place, location, asked);
     match found {
         Access::Fault { fault } => StepPlan::Fault { fault },

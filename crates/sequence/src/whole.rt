@@ -92,7 +92,7 @@ fn run_whole(
 pub fn sequential(list: &[u8], memory: &[u32]) -> Opened
     ensures { λ r. ⌜ OpenedAs (now (list .entry)) (sequential-asked (now (list .entry)) (now (memory .entry))) r ⌝ }
 {
-    let opened = runtime::open(list, memory);
+    let opened = fresh::open(list, memory);
     let fresh = opened.run;
     // no task is left in the blank run of a refused open
     if fresh.left == 0 {

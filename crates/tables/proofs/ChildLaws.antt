@@ -21,10 +21,12 @@ use Rattle.tables.specs.declared.Grant.{Grant as Answer}
 use Rattle.tables.specs.declared.Grant.the-variants.{Denied, Granted}
 use Rattle.tables.specs.Grants.{spawner, granted-by, grant-of, child-registers, child-grant, is-denied, unless-faulted, grants-from}
 use Rattle.tables.specs.Children.{seen-by, seen-from, numbers, Fit, RowsOf}
-use Rattle.tables.specs.Places.{insert-at, insert-all}
-use Rattle.tables.specs.Rows.{with, with-rows}
+use Rattle.arrays.specs.Places.{insert-at}
+use Rattle.tables.specs.Children.{insert-all}
+use Rattle.arrays.specs.Rows.{with}
+use Rattle.tables.specs.Children.{with-rows}
 use Rattle.tables.proofs.GrantLaws.{any-spawner}
-use Rattle.tables.proofs.SpliceLaws.{splice-at}
+use Rattle.arrays.proofs.SpliceLaws.{splice-at}
 
 -- the registers of child i
 pub registers-first : (i : ℕ) (rs : List ℕ) → i ≡ 0 → rs ≡ child-registers i rs

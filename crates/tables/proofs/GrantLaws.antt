@@ -12,7 +12,7 @@ use Rattle.tasklist.specs.Accepted.{blank-line}
 use Rattle.semantics.specs.Run.{Task, no-modes}
 use Rattle.semantics.specs.Access.{Access, access-fault}
 use Rattle.semantics.specs.Footprint.{Grant, denied, granted, targets, all-targets, twice, first-fault, unless-denied, grant, child-modes}
-use Rattle.tables.specs.Ahead.{access}
+use Rattle.ahead.specs.Ahead.{access}
 use Rattle.tables.specs.Grants.{named-location, named-mode, spawner}
 
 -- the fault of an access, by the own mode and the mode asked for

@@ -6,6 +6,8 @@ use Rattle.tasklist.specs.declared.Line.{Line}
 use Rattle.semantics.specs.Run.{Task}
 use Rattle.semantics.specs.Footprint.{granted}
 use Rattle.tables.specs.Grants.{child-registers, child-grant}
+use Rattle.arrays.specs.Places.{insert-at}
+use Rattle.arrays.specs.Rows.{with}
 
 -- a task as child i sees it, by how the foremost sees it
 abbrev pub seen-by : ℕ → Task → Task
@@ -40,3 +42,13 @@ pub record Fit (left child apart children : ℕ) : Type 0 where
 pub record RowsOf (registers own : List ℕ) (ls : List Line) (last : List ℕ) (children : ℕ) (rows : ℕ → List ℕ) : Type 0 where
   pub each : (i : ℕ) → i < children → child-grant registers own ls i ≡ granted (rows i)
   pub hindmost : 0 < children → last ≡ rows (children - 1)
+
+-- the first k children put at a place, the last of them first
+unfoldable pub insert-all : ℕ → ℕ → ℕ → ℕ → List ℕ → List ℕ
+insert-all at child apart zero xs = xs
+insert-all at child apart (suc k) xs = insert-all at child apart k (insert-at at (child + k * apart) xs)
+
+-- the table with the rows of the first k children, the last of them put first
+unfoldable pub with-rows : ℕ → ℕ → (ℕ → List ℕ) → ℕ → List ℕ → List ℕ
+with-rows child apart rows zero flat = flat
+with-rows child apart rows (suc k) flat = with-rows child apart rows k (with (child + k * apart) (rows k) flat)

@@ -9,13 +9,13 @@ ghost use Rattle.tasklist.specs.Tables.{list-of};
 ghost use Rattle.semantics.specs.Footprint.{granted};
 ghost use Rattle.tables.specs.Grants.{child-grant};
 ghost use Rattle.tables.specs.Children.{Fit, RowsOf};
-ghost use Rattle.tables.specs.Places.{insert-all};
-ghost use Rattle.tables.specs.Rows.{with-rows};
+ghost use Rattle.tables.specs.Children.{insert-all};
+ghost use Rattle.tables.specs.Children.{with-rows};
 use crate::footprint::child_registers;
 use crate::footprint::granted;
-use crate::modes::put_row;
-use crate::order::insert;
-use crate::search::wide;
+use arrays::insert;
+use arrays::put_row;
+use arrays::wide;
 use tasklist::Tables;
 
 // All children have a number below 128 and a place in the order.

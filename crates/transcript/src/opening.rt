@@ -19,7 +19,7 @@ pub fn open_files(jobs: &[u8], numbers: &[u8]) -> Opened
     let read = library::read_numbers(numbers);
     let values = read.values;
     let count = read.count;
-    runtime::open(jobs, &values[..count])
+    fresh::open(jobs, &values[..count])
 }
 
 // What open answers, as document 01's number: 0 where it accepts.

@@ -9,7 +9,7 @@ use Rattle.benchlib.proofs.bench_lent.Statement.{statement}
 use Rattle.benchlib.proofs.bench_lent.Tie as tie
 use Rattle.benchlib.proofs.bench_lent.Reads as reads
 use Rattle.benchlib.proofs.bench_lent.Lts as lts
-use Rattle.runtime.proofs.open.Reads as open-reads
+use Rattle.fresh.proofs.open.Reads as open-reads
 use Rattle.lent.proofs.lend.Reads as lend-reads
 
 open-requires : tie.Need-open-requires

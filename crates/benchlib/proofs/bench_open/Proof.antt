@@ -7,7 +7,7 @@ use Rattle.benchlib.proofs.bench_open.Statement.{statement}
 use Rattle.benchlib.proofs.bench_open.Tie as tie
 use Rattle.benchlib.proofs.bench_open.Reads as reads
 use Rattle.benchlib.proofs.bench_open.Lts as lts
-use Rattle.runtime.proofs.open.Reads as open-reads
+use Rattle.fresh.proofs.open.Reads as open-reads
 
 open-requires : tie.Need-open-requires
 open-requires c κs = search needs

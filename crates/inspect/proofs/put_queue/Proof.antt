@@ -1,7 +1,7 @@
 -- What is put and what is left to put are the whole.
 -- Assumes nothing.
 use lib.ListN.{length-take}
-use Rattle.tables.specs.Rows.{row}
+use Rattle.arrays.specs.Rows.{row}
 use Prim.Native.Nat.{ℕ, _+_, _-_, _≤_, min}
 use mathlib.Core.Path.{_≡_, refl, sym, ap, subst, _∙_}
 use native.Mathlib.Omega.{arith}

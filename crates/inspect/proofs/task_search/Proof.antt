@@ -6,7 +6,7 @@ use lib.ListN.{length}
 use Rattle.tasklist.proofs.PlaceLaws.{length-lowered}
 use Rattle.semantics.proofs.Record.{the-type as the-record}
 use Rattle.semantics.specs.Answers.{refusal-number}
-use Rattle.tables.specs.Ahead.{accesses-of}
+use Rattle.ahead.specs.Ahead.{accesses-of}
 use Rattle.inspect.specs.Told.{told}
 use Rattle.inspect.proofs.AskLaws.{search-beyond, search-absent, search-given}
 use borrow.Author.Needs.{needs}

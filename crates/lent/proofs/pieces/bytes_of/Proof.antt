@@ -4,7 +4,7 @@ use mathlib.Core.Path.{_≡_, sym, ap, _∙_}
 use native.Mathlib.Omega.{arith}
 use lib.ListN.{length, take, length-set}
 use denote.Ref.{now}
-use Rattle.runtime.proofs.StateLaws.{filled}
+use Rattle.fresh.proofs.StateLaws.{filled}
 use borrow.Author.Needs.{needs}
 use Rattle.lent.proofs.pieces.bytes_of.Statement.{statement}
 use Rattle.lent.proofs.pieces.bytes_of.Tie as tie

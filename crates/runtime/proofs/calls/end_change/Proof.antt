@@ -15,7 +15,7 @@ use Rattle.runtime.proofs.calls.fewer.Reads as fewer-reads
 use Rattle.runtime.proofs.carry.changed.Reads as changed-reads
 use Rattle.runtime.proofs.carry.in_state.Reads as in-state-reads
 use Rattle.runtime.proofs.carry.unchanged.Reads as unchanged-reads
-use Rattle.tables.proofs.remove.Reads as remove-reads
+use Rattle.arrays.proofs.remove.Reads as remove-reads
 
 -- src/calls.rt:134:9
 end-look-requires : tie.Need-end-look-requires

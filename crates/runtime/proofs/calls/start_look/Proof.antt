@@ -5,10 +5,10 @@ use mathlib.Core.Path.{_≡_, sym, ap, subst, _∙_}
 use denote.Ref.{now}
 use Rattle.semantics.specs.Answers.{refusal-number}
 use Rattle.semantics.specs.Plan.{start}
-use Rattle.tables.specs.Ahead.{searched-ahead, accesses-of}
-use Rattle.tables.specs.declared.Hold.{Hold}
-use Rattle.tables.specs.declared.Hold.the-variants.{Free, Writer, Others}
-use Rattle.tables.proofs.SearchLaws.{outcome-by}
+use Rattle.ahead.specs.Ahead.{searched-ahead, accesses-of}
+use Rattle.ahead.specs.declared.Hold.{Hold}
+use Rattle.ahead.specs.declared.Hold.the-variants.{Free, Writer, Others}
+use Rattle.ahead.proofs.SearchLaws.{outcome-by}
 use Rattle.runtime.specs.declared.Run.{Run}
 use Rattle.runtime.specs.declared.Located.the-variants.{At}
 use Rattle.runtime.specs.View.{SoundRun}

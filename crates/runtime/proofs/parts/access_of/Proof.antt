@@ -3,9 +3,9 @@
 use mathlib.Core.Path.{_≡_, ap}
 use denote.Ref.{now}
 use Rattle.semantics.specs.Answers.{refusal-number}
-use Rattle.tables.specs.declared.Hold.{Hold}
-use Rattle.tables.specs.declared.Hold.the-variants.{Free, Writer, Others}
-use Rattle.tables.specs.Ahead.{searched-ahead}
+use Rattle.ahead.specs.declared.Hold.{Hold}
+use Rattle.ahead.specs.declared.Hold.the-variants.{Free, Writer, Others}
+use Rattle.ahead.specs.Ahead.{searched-ahead}
 use Rattle.runtime.specs.declared.Run.{Run}
 use Rattle.runtime.specs.Steps.{looking}
 use Rattle.runtime.proofs.StepLaws.{AccessBy, access-faults, access-looked}

@@ -6,7 +6,7 @@ use Rattle.sequence.proofs.replaying.replay.Statement.{statement}
 use Rattle.sequence.proofs.replaying.replay.Tie as tie
 use Rattle.sequence.proofs.replaying.replay.Reads as reads
 use Rattle.sequence.proofs.replaying.replay.Lts as lts
-use Rattle.runtime.proofs.open.Reads as open-reads
+use Rattle.fresh.proofs.open.Reads as open-reads
 use Rattle.sequence.proofs.replaying.all_called.Reads as all-called-reads
 
 -- src/replaying.rt:48:9

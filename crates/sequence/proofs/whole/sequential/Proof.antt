@@ -7,7 +7,7 @@ use Rattle.sequence.proofs.whole.sequential.Tie as tie
 use Rattle.sequence.proofs.whole.sequential.Reads as reads
 use Rattle.sequence.proofs.whole.sequential.Lts as lts
 use Rattle.listing.proofs.body_count.Reads as body-count-reads
-use Rattle.runtime.proofs.open.Reads as open-reads
+use Rattle.fresh.proofs.open.Reads as open-reads
 use Rattle.sequence.proofs.whole.run_whole.Reads as run-whole-reads
 
 -- src/whole.rt:89:9

@@ -1,0 +1,2 @@
+-- Laws of the definitions, for this crate's proofs and for the layer above.
+pub mod SearchLaws

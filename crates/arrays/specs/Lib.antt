@@ -1,0 +1,3 @@
+-- The definitions that the promises of this crate cite.
+pub mod Places
+pub mod Rows

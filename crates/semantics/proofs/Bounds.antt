@@ -1,6 +1,6 @@
 -- What a sound run's tables need: the order has at most 128 places and room for each task that is made, and no counter comes
 -- near 2^32. Assumes nothing.
-use Prim.Native.Nat.{ℕ, zero, suc, _+_, _<_, _≤_}
+use Prim.Native.Nat.{ℕ, zero, suc, _+_, _*_, _<_, _≤_}
 use mathlib.Core.Path.{_≡_, refl, sym, ap, subst, _∙_}
 use mathlib.Core.List.{List, [], _∷_, _++_}
 use mathlib.Core.Bool.{false}
@@ -111,8 +111,8 @@ module _ (c : Context) (most : ℕ) (r : Run) (s : Sound c most r) where
       let n = s .valid .size in
       omega arith
 
--- "start 5, end 2, codes 0 to 8: 1, 1, 1, 1, 3, 4, 1, 8, 1"
-pub fixed-light : (l : TaskList) (place : ℕ) → weight-of (context l) place ≤ 8
+-- "start 5, end 2, codes 0 to 8: 1, 1, 1, 1, 3, 4, 1, 8, 1", and a fan's 8 for each of at most 16 children
+pub fixed-light : (l : TaskList) (place : ℕ) → 16 * weight-of (context l) place ≤ 128
 unfolding weight-of fixed-weights
 fixed-light l zero = omega arith
 fixed-light l (suc zero) = omega arith
@@ -125,12 +125,13 @@ fixed-light l (suc (suc (suc (suc (suc (suc (suc zero))))))) = omega arith
 fixed-light l (suc (suc (suc (suc (suc (suc (suc (suc zero)))))))) = omega arith
 fixed-light l (suc (suc (suc (suc (suc (suc (suc (suc (suc zero))))))))) = omega arith
 fixed-light l (suc (suc (suc (suc (suc (suc (suc (suc (suc (suc zero)))))))))) = omega arith
-fixed-light l (suc (suc (suc (suc (suc (suc (suc (suc (suc (suc (suc k))))))))))) = omega arith
+fixed-light l (suc (suc (suc (suc (suc (suc (suc (suc (suc (suc (suc zero))))))))))) = omega arith
+fixed-light l (suc (suc (suc (suc (suc (suc (suc (suc (suc (suc (suc (suc k)))))))))))) = omega arith
 
 -- under these weights
-module _ (l : TaskList) (r : Run) (s : Sound (context l) 8 r) where
-  pub weight-most : r .weight ≤ 34816
-  weight-most = let h = calls-most (context l) 8 r s in let w = s .weight in omega arith
+module _ (l : TaskList) (r : Run) (s : Sound (context l) 128 r) where
+  pub weight-most : r .weight ≤ 557056
+  weight-most = let h = calls-most (context l) 128 r s in let w = s .weight in omega arith
 
-  pub weights-most : (n : ℕ) → task-of r n .weight ≤ 34816
-  weights-most n = let h = calls-most (context l) 8 r s in let w = s .weights n in omega arith
+  pub weights-most : (n : ℕ) → task-of r n .weight ≤ 557056
+  weights-most n = let h = calls-most (context l) 128 r s in let w = s .weights n in omega arith

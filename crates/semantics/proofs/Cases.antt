@@ -6,22 +6,23 @@ use mathlib.Core.List.{List, [], _∷_, _++_}
 use mathlib.Core.Bool.{true}
 use lib.ListN.{length}
 use Rattle.tasklist.specs.declared.Instruction.{Instruction}
-use Rattle.tasklist.specs.declared.Instruction.the-variants.{Const, Sub, Load, Store, Spawn}
+use Rattle.tasklist.specs.declared.Instruction.the-variants.{Const, Sub, Load, Store, Skip, Spawn, Fan}
 use Rattle.tasklist.specs.TaskList.{TaskList, body-of, footprint-of, instruction-of, total, adds, count-body, count-from, counts, task-count}
 use Rattle.tasklist.specs.Fields.{field, is-tag, tag, in-range, number, counted, many, row}
-use Rattle.tasklist.specs.Decode.{head-numbers, head, line-limit, line-ok, is-line, line, footprint, forms, form, instruction-ok, is-instruction, instruction, body, list-behind, sized, finish, empty-list, decode}
+use Rattle.tasklist.specs.Decode.{head-numbers, head, line-limit, line-ok, is-line, line, footprint, forms, form, spawn-ok, instruction-ok, is-instruction, instruction, body, list-behind, sized, finish, empty-list, decode}
 use Rattle.tasklist.specs.Decode
 use Rattle.tasklist.specs.Encode.{instruction-fields}
 use Rattle.tasklist.proofs.Cases.{P}
 use Rattle.semantics.specs.Run.{no-modes, never, fixed-weights, weight-of, root-modes, root, initial}
 use Rattle.semantics.specs.Access.{every, any, only, ahead, queue, behind-writer, compatible, allowed, access-fault}
-use Rattle.semantics.specs.Footprint.{targets, all-targets, twice, first-fault, unless-denied, grant, child-modes}
-use Rattle.semantics.specs.Plan.{unless-fault, plan-load, plan-store, plan-wait, passed-over, child-number, plan-spawn, plan-instruction, step-weight, at-end, needs-from, plan-start, plan-step, plan-end, plan}
+use Rattle.semantics.specs.Effect.{numbered-from}
+use Rattle.semantics.specs.Footprint.{targets, all-targets, twice, first-fault, unless-denied, grant, child-modes, with-first, children, fan-of}
+use Rattle.semantics.specs.Plan.{unless-fault, plan-load, plan-store, plan-wait, passed-over, child-number, plan-make, plan-instruction, units, step-weight, at-end, needs-from, plan-start, plan-step, plan-end, plan}
 use Rattle.semantics.specs.Call.{Call, hold, admit, settle, among, decide, edited, written, splice, stays, places, changes, apply, taken, call, after, after-all}
 use Rattle.semantics.specs.Sequential.{start-of, step-of, end-of, run-each, step-through, steps-through, enough, run-whole, sequential}
 use Rattle.semantics.specs.Operations.{queue-places}
 use Rattle.semantics.specs.Answers.{outcome-number}
-use Rattle.semantics.specs.Case.{Case, by-hand, by-calls, tasks-in, refused-with, memory-is, order-is, queue-is, fault-is, calls-are, weight-is, same, is-so, answers, has-tasks, is-refused, holds}
+use Rattle.semantics.specs.Case.{Case, by-hand, by-calls, tasks-in, refused-with, memory-is, order-is, queue-is, fault-is, registers-are, calls-are, weight-is, same, is-so, answers, has-tasks, is-refused, holds}
 
 -- two locations; footprints: read 0; 0 named twice
 abbrev small : List (List Instruction) → TaskList
@@ -78,6 +79,38 @@ behind-both i =
           (record { kind = 1; value = 0 } ∷ record { kind = 1; value = 1 } ∷ []) ∷ [];
       bodies = (Spawn 1 0 ∷ Spawn 1 1 ∷ i ∷ []) ∷ [] ∷ [];
     }
+
+-- request 104: a fan whose children store 7 at the location of their number
+abbrev fanned : ℕ → ℕ → TaskList
+fanned locations k =
+    record {
+      locations = locations;
+      footprints = (record { kind = 3; value = 0 } ∷ []) ∷ [];
+      bodies = (Fan 1 0 k ∷ []) ∷ (Const 1 7 ∷ Store 0 1 ∷ []) ∷ [];
+    }
+
+-- child 0 names location 0 twice, child 1 one beyond C
+abbrev two-faults : TaskList
+two-faults =
+    record {
+      locations = 1;
+      footprints = (record { kind = 3; value = 0 } ∷ record { kind = 1; value = 0 } ∷ []) ∷ [];
+      bodies = (Fan 1 0 2 ∷ []) ∷ [] ∷ [];
+    }
+
+-- a spawn behind a fan of two tasks, all of a body that fans out one task; no locations are asked for
+abbrev behind-fan : Instruction → TaskList
+behind-fan i =
+    record {
+      locations = 1;
+      footprints = [] ∷ [];
+      bodies = (i ∷ Fan 1 0 2 ∷ Spawn 1 0 ∷ []) ∷ (Fan 2 0 1 ∷ []) ∷ [] ∷ [];
+    }
+
+-- the bytes of a list whose body 0 is one fan
+abbrev fan-bytes : ℕ → ℕ → ℕ → List ℕ
+fan-bytes s f k =
+    0x4A ∷ 0x48 ∷ 1 ∷ 1 ∷ 2 ∷ 0x4A ∷ 0x46 ∷ 0 ∷ 0x4A ∷ 0x42 ∷ 1 ∷ 9 ∷ s ∷ f ∷ k ∷ 0x4A ∷ 0x42 ∷ 0 ∷ []
 
 -- the bytes of a body that spawns these bodies
 abbrev spawns : List ℕ → List ℕ
@@ -141,6 +174,34 @@ cases =
     (order-is (1 ∷ 2 ∷ 3 ∷ 0 ∷ []) ∷ calls-are 4 ∷ []) ∷
     by-calls (behind-both (Store 0 1)) (5 ∷ 7 ∷ []) (opening ++ (step-of 0 ∷ [])) (0 ∷ 0 ∷ 0 ∷ 20 ∷ [])
     (memory-is (5 ∷ 7 ∷ []) ∷ calls-are 3 ∷ []) ∷
+    -- request 104: "Child i has R0 = i, and its footprint is found with that R0. Child 0 is foremost; all stand directly ahead of
+    -- the spawner"; "The weight is 8 × c."
+    by-calls (fanned 4 3) (1 ∷ 2 ∷ 3 ∷ 4 ∷ []) (start-of 0 ∷ step-of 0 ∷ []) (0 ∷ 0 ∷ [])
+    (order-is (1 ∷ 2 ∷ 3 ∷ 0 ∷ []) ∷ registers-are 1 (0 ∷ 0 ∷ 0 ∷ 0 ∷ []) ∷ registers-are 2 (1 ∷ 0 ∷ 0 ∷ 0 ∷ []) ∷
+    registers-are 3 (2 ∷ 0 ∷ 0 ∷ 0 ∷ []) ∷ queue-is 0 (513 ∷ 512 ∷ []) ∷ queue-is 2 (515 ∷ 512 ∷ []) ∷ queue-is 3 (512 ∷ []) ∷
+    calls-are 2 ∷ weight-is 29 ∷ []) ∷
+    -- "the hand run completes them from child 0 on"
+    by-hand (fanned 4 3) (1 ∷ 2 ∷ 3 ∷ 4 ∷ [])
+    (memory-is (7 ∷ 7 ∷ 7 ∷ 4 ∷ []) ∷ order-is [] ∷ calls-are 15 ∷ weight-is 67 ∷ []) ∷
+    -- "If any child would fault, in order of children and lines, none is made.": child 2 asks for location 2 where C = 2
+    by-calls (fanned 2 3) (1 ∷ 2 ∷ []) (start-of 0 ∷ step-of 0 ∷ start-of 1 ∷ []) (0 ∷ 0 ∷ 10 ∷ [])
+    (order-is (0 ∷ []) ∷ fault-is 0 1 ∷ calls-are 2 ∷ weight-is 29 ∷ []) ∷
+    by-hand two-faults (1 ∷ []) (fault-is 0 3 ∷ calls-are 3 ∷ weight-is 23 ∷ []) ∷
+    -- "child i starts at i × count(a) within that block. Later spawns and fans of the sheet number on after the block.": jobs
+    -- 1, 3 and 5. A fan "never waits": job 3's stands behind job 1. The spawner's own register 0 stays.
+    by-calls (behind-fan (Const 0 9)) (1 ∷ []) (opening ++ (step-of 0 ∷ start-of 3 ∷ step-of 3 ∷ [])) (0 ∷ 0 ∷ 0 ∷ 0 ∷ 0 ∷ 0 ∷ [])
+    (order-is (1 ∷ 4 ∷ 3 ∷ 5 ∷ 0 ∷ []) ∷ registers-are 3 (1 ∷ 0 ∷ 0 ∷ 0 ∷ []) ∷ registers-are 5 (9 ∷ 0 ∷ 0 ∷ 0 ∷ []) ∷ []) ∷
+    -- the other registers are copied
+    by-calls (behind-fan (Const 1 9)) (1 ∷ []) opening (0 ∷ 0 ∷ 0 ∷ [])
+    (order-is (1 ∷ 3 ∷ 0 ∷ []) ∷ registers-are 3 (1 ∷ 9 ∷ 0 ∷ 0 ∷ []) ∷ []) ∷
+    -- a fan that is passed over keeps its numbers
+    by-calls (behind-fan (Skip 0 1)) (1 ∷ []) opening (0 ∷ 0 ∷ 0 ∷ []) (order-is (5 ∷ 0 ∷ []) ∷ []) ∷
+    -- "c children (1 to 16)"; "A bad c gives 5.", and so does a sheet that isn't higher or a footprint that the list has not
+    tasks-in (fan-bytes 1 0 16) 17 ∷
+    refused-with (fan-bytes 1 0 0) 5 ∷
+    refused-with (fan-bytes 1 0 17) 5 ∷
+    refused-with (fan-bytes 0 0 1) 5 ∷
+    refused-with (fan-bytes 1 1 1) 5 ∷
     -- Besides those marked. "With P and input 00 00 01 00 01 00 00 02 it prints the lines 0, 0, 0, 12, 5, 7, `3 21 3`."
     -- With request 102 the fourth is 19.
     by-calls P (5 ∷ 7 ∷ []) (opening ++ (start-of 2 ∷ [])) (0 ∷ 0 ∷ 0 ∷ 19 ∷ [])
@@ -169,5 +230,5 @@ cases =
     (fault-is 2 2 ∷ order-is (1 ∷ 2 ∷ 0 ∷ []) ∷ []) ∷ []
 
 pub cases-hold : every holds cases ≡ true
-unfolding body-of footprint-of instruction-of total adds count-body count-from counts task-count field is-tag tag in-range number counted many row head-numbers head line-limit line-ok is-line line footprint forms form instruction-ok is-instruction instruction body list-behind sized finish decode Decode.register instruction-fields no-modes never fixed-weights weight-of root-modes root initial every any only ahead queue behind-writer compatible allowed access-fault unless-fault plan-load plan-store plan-wait passed-over targets all-targets twice first-fault unless-denied grant child-modes child-number plan-spawn plan-instruction step-weight at-end needs-from plan-start plan-step plan-end plan hold admit settle among decide edited written splice stays places changes apply taken call after after-all run-each step-through steps-through enough run-whole sequential queue-places outcome-number same is-so answers has-tasks is-refused holds
+unfolding body-of footprint-of instruction-of total adds count-body count-from counts task-count field is-tag tag in-range number counted many row head-numbers head line-limit line-ok is-line line footprint forms form spawn-ok instruction-ok is-instruction instruction body list-behind sized finish decode Decode.register instruction-fields no-modes never fixed-weights weight-of root-modes root initial every any only ahead queue behind-writer compatible allowed access-fault unless-fault plan-load plan-store plan-wait passed-over targets all-targets twice first-fault unless-denied grant child-modes with-first children fan-of numbered-from child-number plan-make plan-instruction units step-weight at-end needs-from plan-start plan-step plan-end plan hold admit settle among decide edited written splice stays places changes apply taken call after after-all run-each step-through steps-through enough run-whole sequential queue-places outcome-number same is-so answers has-tasks is-refused holds
 cases-hold = refl

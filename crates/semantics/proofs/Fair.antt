@@ -1,5 +1,5 @@
 -- Fair plans: what every plan leaves alone, and where the numbers of the tasks it makes come from. Assumes nothing.
-use Prim.Native.Nat.{ℕ, zero, suc, _+_, _≤_, _<_}
+use Prim.Native.Nat.{ℕ, zero, suc, _+_, _*_, _≤_, _<_}
 use mathlib.Core.Path.{_≡_, refl, sym, ap, subst, _∙_}
 use mathlib.Core.List.{List, [], _∷_, _++_}
 use mathlib.Core.Bool.{Bool, true, false, cond, _&&_, _||_, false≢true}
@@ -11,23 +11,38 @@ use lib.Seq.{take-add, drop-cons}
 use lib.Dec.{ltb, eqb}
 use borrow.Author.Tests.{ltb-true, leb-false, eqb-true}
 use Rattle.tasklist.specs.declared.Instruction.{Instruction}
-use Rattle.tasklist.specs.declared.Instruction.the-variants.{Const, Add, Sub, Less, Load, Store, Skip, Spawn, Wait}
+use Rattle.tasklist.specs.declared.Instruction.the-variants.{Const, Add, Sub, Less, Load, Store, Skip, Spawn, Wait, Fan}
 use Rattle.tasklist.specs.TaskList.{blank-instruction, body-of, footprint-of, instruction-of, total, adds, task-count}
-use Rattle.tasklist.specs.Decode.{instruction-ok}
+use Rattle.tasklist.specs.Decode.{spawn-ok, instruction-ok}
 use Rattle.tasklist.specs.Accepted.{Accepted, scope-of}
 use Rattle.semantics.specs.Run.{Task, Context, mode-of, register}
-use Rattle.semantics.specs.Access.{Access, writes, access-fault}
-use Rattle.semantics.specs.Effect.{Edit, keep, put, Numbered, Effect, Plan, stop, go, fetch, own, moved, faulted, child}
-use Rattle.semantics.specs.Footprint.{Grant, denied, granted, child-modes}
-use Rattle.semantics.specs.Plan.{unless-fault, plan-load, plan-store, plan-wait, child-number, plan-spawn, plan-instruction, at-end, plan-start, plan-step, plan-end, Action, start, step, end, plan}
+use Rattle.semantics.specs.Access.{Access, writes, compatible, access-fault}
+use Rattle.semantics.specs.Effect.{Edit, keep, put, Numbered, Effect, Plan, stop, go, fetch, own, moved, faulted, numbered-from}
+use Rattle.semantics.specs.Footprint.{Grant, denied, granted, child-modes, Children, none-made, all-made, children, fan-of}
+use Rattle.semantics.specs.Plan.{unless-fault, plan-load, plan-store, plan-wait, child-number, plan-make, plan-instruction, at-end, plan-start, plan-step, plan-end, Action, start, step, end, plan}
 use Rattle.semantics.specs.Sound.{In}
 use Rattle.semantics.proofs.Order.{and-left, and-right}
 use Rattle.semantics.proofs.Modes.{Under, GrantUnder, child-under}
+use Rattle.semantics.proofs.Children.{Made, MadeOne, children-made, alone, fan-fits, fan-length, fan-in, numbered-in}
 
 -- The tasks made, packed one behind the other between two numbers, each with the block of numbers of its body's count.
 abbrev pub Packed : Context → ℕ → List Numbered → ℕ → Type 0
 Packed c low [] high = low ≤ high
 Packed c low (x ∷ xs) high = (low ≤ x .number) × Packed c (x .number + task-count (c .list) (x .task .body)) xs high
+
+-- tasks of one body, numbered its count apart
+numbered-packed :
+    (c : Context) (s first : ℕ) (ts : List Task) → ((x : Task) → In x ts → x .body ≡ s)
+    → Packed c first (numbered-from first (task-count (c .list) s) ts) (first + length ts * task-count (c .list) s)
+unfolding numbered-from
+numbered-packed c s first [] h = omega arith
+numbered-packed c s first (t ∷ ts) h =
+    let apart = task-count (c .list) s in
+    let next = first + apart in
+    let later = numbered-from next apart ts in
+    let ends : next + length ts * apart ≡ first + suc (length ts) * apart = omega arith in
+    let packed = subst (Packed c next later) ends (numbered-packed c s next ts (λ x i. h x (inr i))) in
+    (le-refl _, subst (λ b. Packed c (first + task-count (c .list) b) later (first + suc (length ts) * apart)) (sym (h t (inl refl))) packed)
 
 -- A task just made by t: waiting, at its body's begin, under t's modes, with a higher body of the list.
 pub record Newborn (c : Context) (t t′ : Task) : Type 0 where
@@ -102,46 +117,73 @@ module _ (c : Context) (n : ℕ) (t : Task) where
   fair-cond true p q h k = h refl
   fair-cond false p q h k = k refl
 
-  fair-spawn :
-      (ok : Accepted (c .list)) (w s f : ℕ) → t .state ≡ 2 → t .pc < length (body-of (c .list) (t .body))
-      → instruction-of (c .list) (t .body) (t .pc) ≡ Spawn s f → (g : Grant) → GrantUnder t g
-      → FairPlan c n t (plan-spawn c w n t s g)
-  unfolding plan-spawn
-  fair-spawn ok w s f st h q (denied k) u = (fair-faulted w k st, tt)
-  fair-spawn ok w s f st h q (granted ms) u =
-      (record { body = refl; modes = refl; alive = λ _. st; born = born; packed = packed }, tt)
+  -- a child of the spawner as it sees it, with a body that the list's tests let through
+  newborn :
+      (s f : ℕ) → spawn-ok (scope-of (c .list) (t .body) (t .pc)) s f ≡ true → (x : Task) → x .modes ≡ t .modes
+      → (g : Grant) → GrantUnder x g → MadeOne (λ _. Unit {0}) (λ y. Newborn c t y × (y .body ≡ s)) s x g
+  newborn s f fits x q (denied k) u = tt
+  newborn s f fits x q (granted ms) u = (
+    record {
+      waiting = refl;
+      begins = refl;
+      under = λ a w h. u a w (subst (λ l. compatible (getD l a 0) w ≡ true) (sym q) h);
+      higher = ltb-true (t .body) s (and-left _ (ltb s (length (c .list .bodies))) both);
+      exists = ltb-true s (length (c .list .bodies)) (and-right (ltb (t .body) s) _ both);
+    },
+    refl,
+  )
     where
-      fits : (ltb (t .body) s && ltb s (length (c .list .bodies)) && ltb f (length (c .list .footprints))) ≡ true
-      fits = unfold instruction-ok in subst (λ i. instruction-ok (scope-of (c .list) (t .body) (t .pc)) i ≡ true) q (ok .instructions (t .body) (t .pc) h)
+      three : (ltb (t .body) s && ltb s (length (c .list .bodies)) && ltb f (length (c .list .footprints))) ≡ true
+      three = unfold spawn-ok in fits
 
       both : (ltb (t .body) s && ltb s (length (c .list .bodies))) ≡ true
-      both = and-left (ltb (t .body) s && ltb s (length (c .list .bodies))) _ fits
+      both = and-left (ltb (t .body) s && ltb s (length (c .list .bodies))) _ three
 
-      born :
-          (x : Numbered) → In x (record { number = child-number c n t; task = child s ms t } ∷ [])
-          → Newborn c t (x .task)
-      born x (inl e) =
-          subst (λ y. Newborn c t (y .task)) (sym e)
-          (record {
-            waiting = refl;
-            begins = refl;
-            under = u;
-            higher = ltb-true (t .body) s (and-left _ (ltb s (length (c .list .bodies))) both);
-            exists = ltb-true s (length (c .list .bodies)) (and-right (ltb (t .body) s) _ both);
-          })
-      born x (inr e) = absurd e
+  -- the children of one body take the numbers that their instruction adds
+  fair-make :
+      (w s k : ℕ) → t .state ≡ 2 → t .pc < length (body-of (c .list) (t .body))
+      → adds (task-count (c .list)) (instruction-of (c .list) (t .body) (t .pc)) ≡ k * task-count (c .list) s
+      → (ys : Children) → Made (λ _. Unit {0}) (λ y. Newborn c t y × (y .body ≡ s)) k ys
+      → FairPlan c n t (plan-make c w n t s ys)
+  unfolding plan-make
+  fair-make w s k st h q (none-made f) m = (fair-faulted w f st, tt)
+  fair-make w s k st h q (all-made ys) m =
+      (record { body = refl; modes = refl; alive = λ _. st; born = born; packed = packed }, tt)
+    where
+      made : List Numbered
+      made = numbered-from (child-number c n t) (task-count (c .list) s) ys
+
+      born : (x : Numbered) → In x made → Newborn c t (x .task)
+      born x i = m .1 (x .task) (numbered-in (child-number c n t) (task-count (c .list) s) ys x i) .0
+
+      added :
+          adds (task-count (c .list)) (getD (body-of (c .list) (t .body)) (t .pc) blank-instruction)
+          ≡ k * task-count (c .list) s
+      added = unfold instruction-of in q
 
       grows :
           total (adds (task-count (c .list))) (take (t .pc + 1) (body-of (c .list) (t .body)))
-          ≡ total (adds (task-count (c .list))) (take (t .pc) (body-of (c .list) (t .body))) + task-count (c .list) s
+          ≡ total (adds (task-count (c .list))) (take (t .pc) (body-of (c .list) (t .body)))
+          + length ys * task-count (c .list) s
       grows =
           total-take-one (adds (task-count (c .list))) (body-of (c .list) (t .body)) (t .pc) blank-instruction h
-          ∙ ap (λ k. total (adds (task-count (c .list))) (take (t .pc) (body-of (c .list) (t .body))) + k)
-          (unfold adds instruction-of in ap (adds (task-count (c .list))) q)
+          ∙ ap (λ j. total (adds (task-count (c .list))) (take (t .pc) (body-of (c .list) (t .body))) + j)
+          (added ∙ ap (λ j. j * task-count (c .list) s) (sym (m .0)))
 
-      packed :
-          Packed c (child-number c n t) (record { number = child-number c n t; task = child s ms t } ∷ []) (child-number c n (moved 1 (t .registers) t))
-      packed = (le-refl _, unfold child-number in omega (arith, grows))
+      ends : child-number c n t + length ys * task-count (c .list) s ≡ child-number c n (moved 1 (t .registers) t)
+      ends = unfold child-number in omega (arith, grows)
+
+      packed : Packed c (child-number c n t) made (child-number c n (moved 1 (t .registers) t))
+      packed =
+          subst (Packed c (child-number c n t) made) ends
+          (numbered-packed c s (child-number c n t) ys (λ x i. m .1 x i .1))
+
+  -- the instruction that a step meets has passed its tests
+  passed :
+      Accepted (c .list) → t .pc < length (body-of (c .list) (t .body)) → (i : Instruction)
+      → instruction-of (c .list) (t .body) (t .pc) ≡ i → instruction-ok (scope-of (c .list) (t .body) (t .pc)) i ≡ true
+  passed ok h i q =
+      subst (λ j. instruction-ok (scope-of (c .list) (t .body) (t .pc)) j ≡ true) q (ok .instructions (t .body) (t .pc) h)
 
   fair-instruction :
       (ok : Accepted (c .list)) (w : ℕ) → t .state ≡ 2 → t .pc < length (body-of (c .list) (t .body))
@@ -157,9 +199,20 @@ module _ (c : Context) (n : ℕ) (t : Task) where
       fair-unless (access-fault (mode-of t (register t a)) 2) w _ s
       (λ f. (record { body = refl; modes = refl; alive = λ _. s; born = λ y i. absurd i; packed = later-number 1 (t .registers) }, (inl refl, f)))
   fair-instruction ok w s h (Skip a b) q = (fair-moved w _ _ s, tt)
-  fair-instruction ok w s h (Spawn b f) q = fair-spawn ok w b f s h q (child-modes t (footprint-of (c .list) f)) (child-under t _)
+  fair-instruction ok w s h (Spawn b f) q =
+      fair-make w b 1 s h (ap (adds (task-count (c .list))) q ∙ unfold adds in omega arith) (children b (footprint-of (c .list) f) (t ∷ []))
+      (children-made (λ _. Unit {0}) (λ y. Newborn c t y × (y .body ≡ b)) b (footprint-of (c .list) f) (t ∷ [])
+      (λ x i.
+      newborn b f (unfold instruction-ok in passed ok h _ q) x (ap (λ y. y .modes) (alone t x i)) (child-modes x (footprint-of (c .list) f)) (child-under x _)))
   fair-instruction ok w s h (Wait a) q =
       fair-unless (access-fault (mode-of t (register t a)) (mode-of t (register t a))) w _ s (λ f. (fair-moved w 1 _ s, tt))
+  fair-instruction ok w s h (Fan b f k) q =
+      fair-make w b k s h (ap (adds (task-count (c .list))) q ∙ unfold adds in refl) (children b (footprint-of (c .list) f) (fan-of 0 k t))
+      (subst (λ j. Made (λ _. Unit {0}) (λ y. Newborn c t y × (y .body ≡ b)) j (children b (footprint-of (c .list) f) (fan-of 0 k t))) (fan-length 0 k t)
+      (children-made (λ _. Unit {0}) (λ y. Newborn c t y × (y .body ≡ b)) b (footprint-of (c .list) f) (fan-of 0 k t)
+      (λ x i.
+      newborn b f (fan-fits _ b f k (passed ok h _ q) .0) x
+      (ap (λ y. y .modes) (fan-in 0 k t x i .1)) (child-modes x (footprint-of (c .list) f)) (child-under x _))))
 
   pub not-at-end : at-end c t ≡ false → t .pc < length (body-of (c .list) (t .body))
   unfolding at-end

@@ -10,18 +10,19 @@ use lib.ListN.{length, getD}
 use lib.Dec.{leb}
 use borrow.Author.Tests.{eq-eqb, ne-eqb}
 use Rattle.tasklist.specs.declared.Instruction.{Instruction}
-use Rattle.tasklist.specs.declared.Instruction.the-variants.{Const, Add, Sub, Less, Load, Store, Skip, Spawn, Wait}
+use Rattle.tasklist.specs.declared.Instruction.the-variants.{Const, Add, Sub, Less, Load, Store, Skip, Spawn, Wait, Fan}
 use Rattle.tasklist.specs.declared.Line.{Line}
 use Rattle.tasklist.specs.TaskList.{body-of, footprint-of}
 use Rattle.semantics.specs.Run.{Task, Run, Context, mode-of, register, no-modes, start-weight, end-weight, task-of}
 use Rattle.semantics.specs.Access.{Access, reads, every, ahead, allowed, access-fault}
 use Rattle.semantics.specs.Effect.{Effect, Plan, stop, go, fetch, own, in-state, moved, faulted, leaving}
-use Rattle.semantics.specs.Footprint.{Grant, denied, granted, unless-denied, grant, child-modes, all-targets}
-use Rattle.semantics.specs.Plan.{unless-fault, plan-load, plan-store, plan-wait, plan-spawn, plan-instruction, at-end, needs-from, plan-start, plan-step, plan-end, start, step, end, plan}
+use Rattle.semantics.specs.Footprint.{Grant, denied, granted, unless-denied, grant, child-modes, all-targets, Children, none-made, all-made, children, fan-of}
+use Rattle.semantics.specs.Plan.{unless-fault, plan-load, plan-store, plan-wait, plan-make, plan-instruction, at-end, needs-from, plan-start, plan-step, plan-end, start, step, end, plan}
 use Rattle.semantics.specs.Call.{splice, stays, places, apply}
 use Rattle.semantics.specs.Sound.{In, Distinct}
 use Rattle.semantics.proofs.Order.{in-every, splice-same, splice-absent, ahead-self}
 use Rattle.semantics.proofs.Modes.{not-zero}
+use Rattle.semantics.proofs.Children.{Made, MadeOne, children-made}
 use Rattle.semantics.proofs.Apply.{numbers}
 use Rattle.semantics.proofs.Decide.{Settled, Accepts, Ready}
 
@@ -44,7 +45,7 @@ fault-ends c t h = rw (ne-eqb (t .fault) 0 h) (or-true (leb (length (body-of (c 
     or-true true = refl
     or-true false = refl
 
--- a spawn is denied by a fault only
+-- a spawn or a fan is denied by a fault only
 abbrev Faulty : Grant → Type 0
 Faulty (denied k) = k ≡ 0 → ⊥
 Faulty (granted ms) = Unit {0}
@@ -59,9 +60,17 @@ unfolding grant
 grant-faulty t ms [] = tt
 grant-faulty t ms (g ∷ gs) = denied-faulty _ _ (grant-faulty t _ gs)
 
-child-faulty : (t : Task) (ls : List Line) → Faulty (child-modes t ls)
+children-faulty :
+    (s : ℕ) (ls : List Line) (ts : List Task)
+    → Made (λ k. k ≡ 0 → ⊥) (λ _. Unit {0}) (length ts) (children s ls ts)
 unfolding child-modes
-child-faulty t ls = grant-faulty t no-modes (all-targets t ls)
+children-faulty s ls ts =
+    children-made (λ k. k ≡ 0 → ⊥) (λ _. Unit {0}) s ls ts
+    (λ t i. one t (child-modes t ls) (grant-faulty t no-modes (all-targets t ls)))
+  where
+    one : (t : Task) (g : Grant) → Faulty g → MadeOne (λ k. k ≡ 0 → ⊥) (λ _. Unit {0}) s t g
+    one t (denied k) h = h
+    one t (granted ms) h = tt
 
 module _ (c : Context) (n : ℕ) (t : Task) where
   onward : (w k : ℕ) (rs : List ℕ) → 0 < k → Onward c t (own w (moved k rs t))
@@ -75,10 +84,11 @@ module _ (c : Context) (n : ℕ) (t : Task) where
   stepping-unless zero w p h = h
   stepping-unless (suc k) w p h = onward-fault w (suc k) (λ q. not-zero k q)
 
-  stepping-spawn : (w s : ℕ) (g : Grant) → Faulty g → Stepping c t (plan-spawn c w n t s g)
-  unfolding plan-spawn
-  stepping-spawn w s (denied k) h = onward-fault w k h
-  stepping-spawn w s (granted ms) h = record { remains = refl; moves = inl (omega arith) }
+  stepping-make :
+      (w s k : ℕ) (ys : Children) → Made (λ f. f ≡ 0 → ⊥) (λ _. Unit {0}) k ys → Stepping c t (plan-make c w n t s ys)
+  unfolding plan-make
+  stepping-make w s k (none-made f) h = onward-fault w f h
+  stepping-make w s k (all-made ts) h = record { remains = refl; moves = inl (omega arith) }
 
   pub stepping : (w : ℕ) (i : Instruction) → Stepping c t (plan-instruction c w n t i)
   unfolding plan-instruction plan-load plan-store plan-wait
@@ -90,8 +100,9 @@ module _ (c : Context) (n : ℕ) (t : Task) where
   stepping w (Store a x) =
       stepping-unless (access-fault (mode-of t (register t a)) 2) w _ (record { remains = refl; moves = inl (omega arith) })
   stepping w (Skip a b) = onward w _ _ (omega arith)
-  stepping w (Spawn s f) = stepping-spawn w s (child-modes t (footprint-of (c .list) f)) (child-faulty t _)
+  stepping w (Spawn s f) = stepping-make w s 1 (children s (footprint-of (c .list) f) (t ∷ [])) (children-faulty s (footprint-of (c .list) f) (t ∷ []))
   stepping w (Wait a) = stepping-unless (access-fault (mode-of t (register t a)) (mode-of t (register t a))) w _ (onward w 1 _ (omega arith))
+  stepping w (Fan s f k) = stepping-make w s _ (children s (footprint-of (c .list) f) (fan-of 0 k t)) (children-faulty s (footprint-of (c .list) f) (fan-of 0 k t))
 
   pub stepping-plan : Ready c t step → Stepping c t (plan c step n t)
   unfolding plan plan-step

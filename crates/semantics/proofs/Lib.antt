@@ -6,6 +6,7 @@ pub mod Cases
 pub mod Confluence
 pub mod Order
 pub mod Modes
+pub mod Children
 pub mod Apply
 pub mod Fair
 pub mod Decide

@@ -1,6 +1,6 @@
 -- Every run that calls lead to from an initial one is sound: bounds of every record, of the memory and of the counters.
 -- Each accepted call raises one task's rank by one, so that the calls are the sum of the ranks. Assumes nothing.
-use Prim.Native.Nat.{ℕ, _^_, _<_, _≤_}
+use Prim.Native.Nat.{ℕ, _*_, _^_, _<_, _≤_}
 use mathlib.Core.Path.{_≡_, subst}
 use mathlib.Core.List.{List}
 use lib.ListN.{length, getD}
@@ -15,7 +15,7 @@ use Rattle.semantics.proofs.SoundInitial.{initial-sound}
 
 -- For every list of calls, and for the sequential run.
 module _
-    (c : Context) (ok : Accepted (c .list)) (most : ℕ) (light : (place : ℕ) → weight-of c place ≤ most) (memory : List ℕ)
+    (c : Context) (ok : Accepted (c .list)) (most : ℕ) (light : (place : ℕ) → 16 * weight-of c place ≤ most) (memory : List ℕ)
     (fits : length memory ≡ c .list .locations) (small : (a : ℕ) → getD memory a 0 < 2 ^ 32)
   where
     pub sound : (calls : List Call) → Sound c most (after-all c (initial c memory) calls)

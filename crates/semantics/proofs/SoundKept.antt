@@ -72,7 +72,7 @@ edited-small (put b v) m s h a = sort (getD-set-cases m b v a 0)
     sort (inl q) = subst (λ x. x < 2 ^ 32) (sym q) (h a)
     sort (inr q) = subst (λ x. x < 2 ^ 32) (sym (q .1)) s
 
-module _ (c : Context) (ok : Accepted (c .list)) (most : ℕ) (light : (place : ℕ) → weight-of c place ≤ most) where
+module _ (c : Context) (ok : Accepted (c .list)) (most : ℕ) (light : (place : ℕ) → 16 * weight-of c place ≤ most) where
   module _ (r : Run) (s : Sound c most r) (b : Call) (e : Effect) (h : Accepts c r b e) where
     pub effect-sound : EffectSound c most (task-of r (b .task)) e
     effect-sound =

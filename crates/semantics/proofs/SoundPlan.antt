@@ -1,29 +1,33 @@
 -- What a plan keeps sound: the bounds of a task's record, of the tasks made, of what is stored and of the weight; and each
 -- accepted call raises its task's rank by one. Assumes nothing.
-use Prim.Native.Nat.{ℕ, zero, suc, _+_, _-_, _^_, _<_, _≤_}
+use Prim.Native.Nat.{ℕ, zero, suc, _+_, _-_, _*_, _^_, _<_, _≤_}
 use mathlib.Core.Path.{_≡_, refl, sym, ap, subst}
 use mathlib.Core.List.{List, [], _∷_}
 use mathlib.Core.Bool.{Bool, true, false, cond, _&&_, _||_, false≢true}
 use mathlib.Core.Logic.{inl, inr}
 use native.Mathlib.Omega.{arith}
-use native.Mathlib.Nat.{mod-lt}
+use native.Mathlib.Nat.{mod-lt, mul-le-mul-right}
 use lib.ListN.{length, getD, set}
 use lib.Dec.{ltb, leb, eqb}
 use borrow.Author.Tests.{eqb-true, leb-true, ltb-true, not-false}
 use Rattle.tasklist.specs.declared.Instruction.{Instruction}
-use Rattle.tasklist.specs.declared.Instruction.the-variants.{Const, Add, Sub, Less, Load, Store, Skip, Spawn, Wait}
-use Rattle.tasklist.specs.TaskList.{body-of, footprint-of}
-use Rattle.tasklist.specs.Decode.{instruction-ok}
+use Rattle.tasklist.specs.declared.Instruction.the-variants.{Const, Add, Sub, Less, Load, Store, Skip, Spawn, Wait, Fan}
+use Rattle.tasklist.specs.declared.Line.{Line}
+use Rattle.tasklist.specs.declared.Scope.{Scope}
+use Rattle.tasklist.specs.TaskList.{body-of, footprint-of, instruction-of, task-count}
+use Rattle.tasklist.specs.Decode.{spawn-ok, instruction-ok}
+use Rattle.tasklist.specs.Encode.{instruction-fields}
 use Rattle.tasklist.specs.Accepted.{Accepted, scope-of}
 use Rattle.tasklist.specs.Decode
 use Rattle.semantics.specs.Run.{Task, Context, mode-of, register, weight-of}
 use Rattle.semantics.specs.Access.{access-fault}
-use Rattle.semantics.specs.Effect.{Edit, keep, put, Numbered, Effect, Plan, stop, go, fetch, own, in-state, moved, faulted, child}
-use Rattle.semantics.specs.Footprint.{Grant, denied, granted, child-modes}
-use Rattle.semantics.specs.Plan.{wrap, unless-fault, plan-load, plan-store, plan-wait, passed-over, child-number, plan-spawn, plan-instruction, step-weight, at-end, plan-start, plan-step, plan-end, Action, start, step, end, plan}
-use Rattle.semantics.specs.Sound.{In, RegistersSound, TaskSound, rank}
+use Rattle.semantics.specs.Effect.{Edit, keep, put, Numbered, Effect, Plan, stop, go, fetch, own, in-state, moved, faulted}
+use Rattle.semantics.specs.Footprint.{Grant, denied, granted, child-modes, Children, none-made, all-made, children, fan-of}
+use Rattle.semantics.specs.Plan.{wrap, unless-fault, plan-load, plan-store, plan-wait, passed-over, child-number, plan-make, plan-instruction, units, step-weight, at-end, plan-start, plan-step, plan-end, Action, start, step, end, plan}
+use Rattle.semantics.specs.Sound.{In, ModesSound, RegistersSound, TaskSound, rank}
 use Rattle.semantics.proofs.Order.{and-left, and-right}
 use Rattle.semantics.proofs.Modes.{not-zero}
+use Rattle.semantics.proofs.Children.{Made, MadeOne, children-made, alone, fan-fits, fan-in, numbered-in}
 use Rattle.semantics.proofs.Fair.{not-at-end}
 use Rattle.semantics.proofs.SoundModes.{fault-most, registers-set, GrantSound, child-sound}
 
@@ -62,7 +66,7 @@ passed-most (suc x) b = omega arith
 
 -- a started task that is not at its end
 module _
-    (c : Context) (ok : Accepted (c .list)) (most : ℕ) (light : (place : ℕ) → weight-of c place ≤ most) (n : ℕ) (t : Task)
+    (c : Context) (ok : Accepted (c .list)) (most n : ℕ) (t : Task)
     (h : TaskSound c t) (s : t .state ≡ 2) (inside : t .pc < length (body-of (c .list) (t .body))) (clean : t .fault ≡ 0)
   where
     size : length (body-of (c .list) (t .body)) ≤ 32
@@ -149,12 +153,46 @@ module _
     fault-or zero w p m l q = q
     fault-or (suc k) w p m l q = fails-sound w (suc k) m (omega arith) (not-zero k)
 
-    spawn-sound :
-        (w s : ℕ) (g : Grant) → w ≤ most → s < length (c .list .bodies) → GrantSound (c .list .locations) g
-        → PlanSound c most t (plan-spawn c w n t s g)
-    unfolding plan-spawn
-    spawn-sound w s (denied k) m l q = fails-sound w k m (q .0) (q .1)
-    spawn-sound w s (granted ms) m l q =
+    -- a child of the spawner as it sees it
+    new-sound :
+        (s : ℕ) → s < length (c .list .bodies) → (x : Task) → RegistersSound (x .registers) → (g : Grant)
+        → GrantSound (c .list .locations) g → MadeOne (λ f. (f ≤ 3) × (f ≡ 0 → ⊥)) (NewSound c) s x g
+    new-sound s l x rs (denied f) q = q
+    new-sound s l x rs (granted ms) q =
+        record {
+          task =
+              record {
+                state = omega arith;
+                body = l;
+                pc = omega arith;
+                registers = rs;
+                modes = q;
+                steps = omega arith;
+                early = λ _. omega arith;
+                fault = omega arith;
+                blank = λ y. absurd (not-zero 0 y);
+              };
+          unranked = unfold rank in refl;
+          unpaid = refl;
+        }
+
+    -- the spawner as its children see it has its own modes and sound registers
+    children-sound :
+        (s : ℕ) → s < length (c .list .bodies) → (ls : List Line) (ts : List Task)
+        → ((x : Task) → In x ts → (x .modes ≡ t .modes) × RegistersSound (x .registers))
+        → Made (λ f. (f ≤ 3) × (f ≡ 0 → ⊥)) (NewSound c) (length ts) (children s ls ts)
+    children-sound s l ls ts v =
+        children-made (λ f. (f ≤ 3) × (f ≡ 0 → ⊥)) (NewSound c) s ls ts
+        (λ x i.
+        new-sound s l x (v x i .1) (child-modes x ls)
+        (child-sound (c .list .locations) x (subst (ModesSound (c .list .locations)) (sym (v x i .0)) (h .modes)) ls))
+
+    make-sound :
+        (w s k : ℕ) (ys : Children) → w ≤ most → Made (λ f. (f ≤ 3) × (f ≡ 0 → ⊥)) (NewSound c) k ys
+        → PlanSound c most t (plan-make c w n t s ys)
+    unfolding plan-make
+    make-sound w s k (none-made f) m q = fails-sound w f m (q .0) (q .1)
+    make-sound w s k (all-made ts) m q =
         record {
           task = moved-sound 1 (t .registers) (omega arith) (omega arith) (h .registers);
           alive = started;
@@ -162,34 +200,17 @@ module _
           paid = refl;
           edit = tt;
           weight = m;
-          made = born;
+          made = λ x i. q .1 (x .task) (numbered-in (child-number c n t) (task-count (c .list) s) ts x i);
           left = λ x. absurd (false≢true x);
         }
-      where
-        new : NewSound c (child s ms t)
-        new =
-            record {
-              task =
-                  record {
-                    state = omega arith;
-                    body = l;
-                    pc = omega arith;
-                    registers = h .registers;
-                    modes = q;
-                    steps = omega arith;
-                    early = λ _. omega arith;
-                    fault = omega arith;
-                    blank = λ x. absurd (not-zero 0 x);
-                  };
-              unranked = unfold rank in refl;
-              unpaid = refl;
-            }
 
-        born :
-            (x : Numbered) → In x (record { number = child-number c n t; task = child s ms t } ∷ [])
-            → NewSound c (x .task)
-        born x (inl p) = subst (λ y. NewSound c (y .task)) (sym p) new
-        born x (inr p) = absurd p
+    -- a spawn's or a fan's body is of the list
+    body-exists : (s f : ℕ) → spawn-ok (scope-of (c .list) (t .body) (t .pc)) s f ≡ true → s < length (c .list .bodies)
+    unfolding spawn-ok
+    body-exists s f q =
+        ltb-true s (length (c .list .bodies))
+        (and-right (ltb (t .body) s) (ltb s (length (c .list .bodies)))
+        (and-left (ltb (t .body) s && ltb s (length (c .list .bodies))) _ q))
 
     instruction-sound :
         (w : ℕ) → w ≤ most → (i : Instruction) → instruction-ok (scope-of (c .list) (t .body) (t .pc)) i ≡ true
@@ -222,18 +243,39 @@ module _
         let p = passed-most (register t a) b in
         on-sound w (1 + passed-over (register t a) b) (t .registers) m (omega arith) (omega arith) (h .registers)
     instruction-sound w m (Spawn s f) q =
-        spawn-sound w s (child-modes t (footprint-of (c .list) f)) m
-        (ltb-true s (length (c .list .bodies))
-        (and-right (ltb (t .body) s) (ltb s (length (c .list .bodies)))
-        (and-left (ltb (t .body) s && ltb s (length (c .list .bodies))) _ q)))
-        (child-sound (c .list .locations) t (h .modes) (footprint-of (c .list) f))
+        make-sound w s 1 (children s (footprint-of (c .list) f) (t ∷ [])) m
+        (children-sound s (body-exists s f q) (footprint-of (c .list) f) (t ∷ [])
+        (λ x i.
+        subst (λ y. (y .modes ≡ t .modes) × RegistersSound (y .registers)) (sym (alone t x i)) (refl, h .registers)))
     instruction-sound w m (Wait a) q =
         fault-or (access-fault (mode-of t (register t a)) (mode-of t (register t a))) w _ m (fault-most (mode-of t (register t a)) _)
         (on-sound w 1 (t .registers) m (omega arith) (omega arith) (h .registers))
+    instruction-sound w m (Fan s f k) q =
+        let fits = fan-fits (scope-of (c .list) (t .body) (t .pc)) s f k q in
+        make-sound w s _ (children s (footprint-of (c .list) f) (fan-of 0 k t)) m
+        (children-sound s (body-exists s f (fits .0)) (footprint-of (c .list) f) (fan-of 0 k t)
+        (λ x i.
+        let v = fan-in 0 k t x i in
+        subst (λ y. (y .modes ≡ t .modes) × RegistersSound (y .registers)) (sym (v .1))
+        (refl, registers-set (t .registers) 0 (v .0) (h .registers) (omega (arith, v .2, fits .1)))))
+
+-- a step weighs its code's number at most 16 times
+units-most : (at : Scope) (i : Instruction) → instruction-ok at i ≡ true → units i ≤ 16
+unfolding units
+units-most at (Const a v) q = omega arith
+units-most at (Add a x y) q = omega arith
+units-most at (Sub a x y) q = omega arith
+units-most at (Less a x y) q = omega arith
+units-most at (Load a x) q = omega arith
+units-most at (Store a x) q = omega arith
+units-most at (Skip a b) q = omega arith
+units-most at (Spawn s f) q = omega arith
+units-most at (Wait a) q = omega arith
+units-most at (Fan s f k) q = fan-fits at s f k q .1
 
 module _
-    (c : Context) (ok : Accepted (c .list)) (most : ℕ) (light : (place : ℕ) → weight-of c place ≤ most) (n : ℕ) (t : Task)
-    (h : TaskSound c t)
+    (c : Context) (ok : Accepted (c .list)) (most : ℕ) (light : (place : ℕ) → 16 * weight-of c place ≤ most) (n : ℕ)
+    (t : Task) (h : TaskSound c t)
   where
     no-fault : at-end c t ≡ false → t .fault ≡ 0
     unfolding at-end
@@ -274,6 +316,13 @@ module _
     rank-end s =
         let z : _≡_ {A = ℕ} (getD (0 ∷ 0 ∷ 1 ∷ 2 ∷ []) (t .state) 0) 1 = ap {B = ℕ} (λ k. getD (0 ∷ 0 ∷ 1 ∷ 2 ∷ []) k 0) s in omega arith
 
+    step-light : (i : Instruction) → instruction-ok (scope-of (c .list) (t .body) (t .pc)) i ≡ true → step-weight c i ≤ most
+    unfolding step-weight
+    step-light i q =
+        let number = getD (instruction-fields i) 0 0 + 2 in
+        let m = mul-le-mul-right (weight-of c number) (units-most _ i q) in
+        omega (arith, m, light number)
+
     pub plan-sound : (a : Action) → PlanSound c most t (plan c a n t)
     unfolding plan plan-start plan-step plan-end step-weight
     plan-sound start =
@@ -285,7 +334,7 @@ module _
           ranked = rank-start (eqb-true (t .state) 1 q);
           paid = refl;
           edit = tt;
-          weight = light 0;
+          weight = omega (arith, light 0);
           made = λ x i. absurd i;
           left = λ x. absurd (false≢true x);
         })
@@ -296,8 +345,9 @@ module _
         cond-sound (at-end c t) _ _ (λ _. tt)
         (λ p.
         let inside = not-at-end c n t p in
-        instruction-sound c ok most light n t h (eqb-true (t .state) 2 q) inside (no-fault p) _ (light _) _
-        (ok .instructions (t .body) (t .pc) inside)))
+        let fits = ok .instructions (t .body) (t .pc) inside in
+        let i = instruction-of (c .list) (t .body) (t .pc) in
+        instruction-sound c ok most n t h (eqb-true (t .state) 2 q) inside (no-fault p) _ (step-light i fits) i fits))
         (λ _. tt)
     plan-sound end =
         cond-sound (eqb (t .state) 2) _ _
@@ -310,7 +360,7 @@ module _
           ranked = rank-end (eqb-true (t .state) 2 q);
           paid = refl;
           edit = tt;
-          weight = light 1;
+          weight = omega (arith, light 1);
           made = λ x i. absurd i;
           left = λ _. refl;
         })

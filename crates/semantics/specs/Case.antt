@@ -20,6 +20,8 @@ pub data Fact : Type 0 where
   queue-is : ℕ → List ℕ → Fact
   -- a task's fault
   fault-is : ℕ → ℕ → Fact
+  -- a task's registers
+  registers-are : ℕ → List ℕ → Fact
   calls-are : ℕ → Fact
   weight-is : ℕ → Fact
 
@@ -44,6 +46,7 @@ is-so r (memory-is m) = same (r .memory) m
 is-so r (order-is o) = same (r .order) o
 is-so r (queue-is a q) = same (queue-places r a) q
 is-so r (fault-is n k) = eqb (task-of r n .fault) k
+is-so r (registers-are n vs) = same (task-of r n .registers) vs
 is-so r (calls-are k) = eqb (r .calls) k
 is-so r (weight-is w) = eqb (r .weight) w
 

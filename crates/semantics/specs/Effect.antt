@@ -108,16 +108,14 @@ child s modes t =
       weight = 0;
     }
 
--- one step on, with one task made
-abbrev pub making : ℕ → ℕ → Task → Task → Effect
-making w number made t =
-    record {
-      task = moved 1 (t .registers) t;
-      edit = keep;
-      made = record { number = number; task = made } ∷ [];
-      leaves = false;
-      weight = w;
-    }
+-- tasks with their numbers, so far apart; request 104: "child i starts at i × count(a) within that block"
+unfoldable pub numbered-from : ℕ → ℕ → List Task → List Numbered
+numbered-from first apart [] = []
+numbered-from first apart (t ∷ ts) = record { number = first; task = t } ∷ numbered-from (first + apart) apart ts
+
+-- one step on, with these tasks made
+abbrev pub making : ℕ → List Numbered → Task → Effect
+making w made t = record { task = moved 1 (t .registers) t; edit = keep; made = made; leaves = false; weight = w }
 
 -- "the job leaves the order and its state becomes 3"
 abbrev pub leaving : ℕ → Task → Effect

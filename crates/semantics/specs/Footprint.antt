@@ -1,10 +1,12 @@
--- What a footprint gives a spawned task: document 01, "Each footprint" and the faults of a spawn.
+-- What a footprint gives a spawned task: document 01, "Each footprint" and the faults of a spawn; and the children of a spawn
+-- or a fan.
 use Prim.Native.Nat.{ℕ, zero, suc}
 use mathlib.Core.List.{List, [], _∷_, _++_}
 use lib.ListN.{getD, set}
 use Rattle.tasklist.specs.declared.Line.{Line}
 use Rattle.semantics.specs.Run.{Task, mode-of, register, no-modes}
 use Rattle.semantics.specs.Access.{Access, access-fault}
+use Rattle.semantics.specs.Effect.{child}
 
 -- "Kind 0 reads and 1 writes entry `value`; 2 reads and 3 writes the entry whose number is in register `value`." What one
 -- line names, in the order in which it is tested.
@@ -49,3 +51,39 @@ grant t so-far (g ∷ gs) =
 -- "its footprint's modes": what these lines give a child of task t
 unfoldable pub child-modes : Task → List Line → Grant
 child-modes t ls = grant t no-modes (all-targets t ls)
+
+-- the children that a spawn or a fan makes, foremost first, or its fault
+pub data Children : Type 0 where
+  none-made : ℕ → Children
+  all-made : List Task → Children
+
+-- the child of this grant ahead of the others
+unfoldable pub with-first : ℕ → Task → Grant → Children → Children
+with-first s t (denied k) others = none-made k
+with-first s t (granted modes) (none-made k) = none-made k
+with-first s t (granted modes) (all-made ts) = all-made (child s modes t ∷ ts)
+
+-- A child of body s and these lines for each task, which is the spawner as that child sees it. Request 104: "If any child
+-- would fault, in order of children and lines, none is made."
+unfoldable pub children : ℕ → List Line → List Task → Children
+children s ls [] = all-made []
+children s ls (t ∷ ts) = with-first s t (child-modes t ls) (children s ls ts)
+
+-- request 104: "Child i has R0 = i, and its footprint is found with that R0."
+abbrev pub first-register : ℕ → Task → Task
+first-register i t =
+    record {
+      state = t .state;
+      body = t .body;
+      pc = t .pc;
+      registers = set (t .registers) 0 i;
+      modes = t .modes;
+      steps = t .steps;
+      fault = t .fault;
+      weight = t .weight;
+    }
+
+-- the spawner as k children see it, from child i on
+unfoldable pub fan-of : ℕ → ℕ → Task → List Task
+fan-of i zero t = []
+fan-of i (suc k) t = first-register i t ∷ fan-of (suc i) k t

@@ -1,18 +1,18 @@
 -- The first stage of a call: what a task's own record and the list say, with no look at other tasks or at the memory.
 -- Document 01, "Calls".
-use Prim.Native.Nat.{ℕ, zero, suc, _+_, _-_, _%_, _^_}
+use Prim.Native.Nat.{ℕ, zero, suc, _+_, _-_, _*_, _%_, _^_}
 use mathlib.Core.List.{List, [], _∷_}
 use mathlib.Core.Bool.{Bool, cond, not, _||_}
 use lib.ListN.{length, getD, take}
 use lib.Dec.{leb, ltb, eqb}
 use Rattle.tasklist.specs.declared.Instruction.{Instruction}
-use Rattle.tasklist.specs.declared.Instruction.the-variants.{Const, Add, Sub, Less, Load, Store, Skip, Spawn, Wait}
+use Rattle.tasklist.specs.declared.Instruction.the-variants.{Const, Add, Sub, Less, Load, Store, Skip, Spawn, Wait, Fan}
 use Rattle.tasklist.specs.TaskList.{body-of, footprint-of, instruction-of, total, adds, task-count}
 use Rattle.tasklist.specs.Encode.{instruction-fields}
 use Rattle.semantics.specs.Run.{Task, Context, mode-of, register, start-weight, end-weight, code-weight}
 use Rattle.semantics.specs.Access.{Access, writes, access-fault}
-use Rattle.semantics.specs.Effect.{Plan, stop, go, fetch, own, in-state, moved, assigned, fails, passes, storing, child, making, leaving}
-use Rattle.semantics.specs.Footprint.{Grant, denied, granted, child-modes}
+use Rattle.semantics.specs.Effect.{Plan, stop, go, fetch, own, in-state, moved, assigned, fails, passes, storing, numbered-from, making, leaving}
+use Rattle.semantics.specs.Footprint.{Children, none-made, all-made, children, fan-of}
 
 -- "Faults come before waiting": the plan of an access by its fault's number
 unfoldable pub unless-fault : ℕ → ℕ → Task → Plan → Plan
@@ -45,16 +45,18 @@ passed-over (suc x) b = 0
 abbrev pub wrap : ℕ → ℕ
 wrap x = x % 2 ^ 32
 
--- "Job n's spawn at place i makes job n + 1 + the counts of all spawns before i in that sheet."
+-- "Job n's spawn at place i makes job n + 1 + the counts of all spawns before i in that sheet."; request 104: "Later spawns and
+-- fans of the sheet number on after the block."
 unfoldable pub child-number : Context → ℕ → Task → ℕ
 child-number c n t = n + 1 + total (adds (task-count (c .list))) (take (t .pc) (body-of (c .list) (t .body)))
 
--- E-TASK: the spawner steps on and one task is made; "A spawn that faults has no child."
-unfoldable pub plan-spawn : Context → ℕ → ℕ → Task → ℕ → Grant → Plan
-plan-spawn c w n t s (denied k) = fails w k t
-plan-spawn c w n t s (granted modes) = go [] (making w (child-number c n t) (child s modes t) t)
+-- E-TASK: the spawner steps on and its children of body s are made; "A spawn that faults has no child."
+unfoldable pub plan-make : Context → ℕ → ℕ → Task → ℕ → Children → Plan
+plan-make c w n t s (none-made k) = fails w k t
+plan-make c w n t s (all-made ts) =
+    go [] (making w (numbered-from (child-number c n t) (task-count (c .list) s) ts) t)
 
--- The nine instructions; "Const, add, sub, less, skip and spawn never wait."
+-- The ten instructions; "Const, add, sub, less, skip and spawn never wait.", and the fan is "one step that never waits".
 unfoldable pub plan-instruction : Context → ℕ → ℕ → Task → Instruction → Plan
 plan-instruction c w n t (Const a v) = go [] (own w (assigned a (wrap v) t))
 plan-instruction c w n t (Add a x y) = go [] (own w (assigned a (wrap (register t x + register t y)) t))
@@ -63,12 +65,26 @@ plan-instruction c w n t (Less a x y) = go [] (own w (assigned a (cond (ltb (reg
 plan-instruction c w n t (Load a x) = plan-load w t a (register t x)
 plan-instruction c w n t (Store a x) = plan-store w t (register t a) (register t x)
 plan-instruction c w n t (Skip a b) = go [] (own w (moved (1 + passed-over (register t a) b) (t .registers) t))
-plan-instruction c w n t (Spawn s f) = plan-spawn c w n t s (child-modes t (footprint-of (c .list) f))
+plan-instruction c w n t (Spawn s f) = plan-make c w n t s (children s (footprint-of (c .list) f) (t ∷ []))
 plan-instruction c w n t (Wait a) = plan-wait w t (register t a)
+plan-instruction c w n t (Fan s f k) = plan-make c w n t s (children s (footprint-of (c .list) f) (fan-of 0 k t))
+
+-- how often the number of its code an instruction weighs; request 104: "The weight is 8 × c."
+unfoldable pub units : Instruction → ℕ
+units (Const a v) = 1
+units (Add a x y) = 1
+units (Sub a x y) = 1
+units (Less a x y) = 1
+units (Load a x) = 1
+units (Store a x) = 1
+units (Skip a b) = 1
+units (Spawn s f) = 1
+units (Wait a) = 1
+units (Fan s f k) = k
 
 -- the code of an instruction is the first of its fields
 unfoldable pub step-weight : Context → Instruction → ℕ
-step-weight c i = code-weight c (getD (instruction-fields i) 0 0)
+step-weight c i = units i * code-weight c (getD (instruction-fields i) 0 0)
 
 -- "at the end of its sheet or after a fault"
 unfoldable pub at-end : Context → Task → Bool

@@ -57,9 +57,9 @@ pub record Context : Type 0 where
   pub list : TaskList
   pub weights : List ℕ
 
--- "start 5, end 2, codes 0 to 8: 1, 1, 1, 1, 3, 4, 1, 8, 1"
+-- "start 5, end 2, codes 0 to 8: 1, 1, 1, 1, 3, 4, 1, 8, 1"; request 104: 8 for each child of a fan
 unfoldable pub fixed-weights : List ℕ
-fixed-weights = 5 ∷ 2 ∷ 1 ∷ 1 ∷ 1 ∷ 1 ∷ 3 ∷ 4 ∷ 1 ∷ 8 ∷ 1 ∷ []
+fixed-weights = 5 ∷ 2 ∷ 1 ∷ 1 ∷ 1 ∷ 1 ∷ 3 ∷ 4 ∷ 1 ∷ 8 ∷ 1 ∷ 8 ∷ []
 
 abbrev pub context : TaskList → Context
 context l = record { list = l; weights = fixed-weights }

@@ -62,7 +62,7 @@ pub record TaskSound (c : Context) (t : Task) : Type 0 where
 unfoldable pub rank : Task → ℕ
 rank t = getD (0 ∷ 0 ∷ 1 ∷ 2 ∷ []) (t .state) 0 + t .steps
 
--- With no weight above `most`: every counter fits 32 bits where most * 4352 does.
+-- With no call of a weight above `most`: every counter fits 32 bits where most * 4352 does.
 pub record Sound (c : Context) (most : ℕ) (r : Run) : Type 0 where
   pub valid : Valid c r
   pub tasks : (n : ℕ) → TaskSound c (task-of r n)

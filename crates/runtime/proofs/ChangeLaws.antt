@@ -1,10 +1,11 @@
 -- What a change comes to when it is put into the run that it is of. Assumes nothing.
-use Prim.Native.Nat.{ℕ, _+_, _-_, _%_, _^_, _≤_, _<_}
+use Prim.Native.Nat.{ℕ, zero, suc, _+_, _-_, _*_, _%_, _^_, _≤_, _<_}
 use mathlib.Core.Path.{_≡_, refl, sym, ap, subst, _∙_}
 use mathlib.Core.List.{List, [], _∷_}
 use mathlib.Core.Bool.{Bool, true, false, not, _||_, false≢true}
 use native.Mathlib.Omega.{arith}
 use native.Mathlib.Decide.{ℕ-discrete}
+use native.Mathlib.Numerals.{sub-one}
 use lib.ListN.{length, take, set}
 use lib.Seq.{set-getD}
 use lib.Dec.{leb, eqb}
@@ -32,7 +33,7 @@ use Rattle.runtime.specs.View.{model, context-of, SoundRun}
 use Rattle.runtime.specs.Calls.{call-of, decided, CalledAs, CallsMade}
 use Rattle.runtime.specs.Parts.{Placed, no-record, record-of, start-effect, end-effect, with-state}
 use Rattle.runtime.specs.Steps.{planned, passed, failed, holding, WholeRun, Carries}
-use Rattle.runtime.specs.Changes.{with-parts, ordered, finished, BodySize, kept, counted, put, with-task, ChangeOf, Makes, Put}
+use Rattle.runtime.specs.Changes.{with-parts, ordered, finished, BodySize, kept, counted, put, child-record, with-children, with-made, numbers, ChangeOf, Makes, Fits}
 use Rattle.runtime.proofs.CallLaws.{applied, EndedAs, own-task, one-call, called-refused, start-taken, end-taken}
 use Rattle.runtime.proofs.CarryLaws.{onward, putting, holds-back, step-taken, fault-carried, assign-carried, pass-carried, store-carried}
 
@@ -153,25 +154,22 @@ module _
         (subst (λ x. CalledAs «end» run n (record { answer = Answers.Accepted; run = ended-run x })) q
         (end-taken run n place (ended-run (record-of run n)) below h ended-as))
 
--- A step: what it leaves, and the task that it makes.
+-- A step: what it leaves, and the tasks that it makes.
 abbrev pub StepOf : Run → Run → ℕ → Change → Type 0
-StepOf from next n c = Put (λ x. ChangeOf step n from x (c .answer)) n c next × Makes from n (c .child)
+StepOf from next n c = ChangeOf step n from (with-made c (put n c next)) (c .answer) × (SoundRun from → Makes from n c)
 
-pub makes-none : (run : Run) (n : ℕ) → (SoundRun run → made-by (decided run step n) ≡ []) → Makes run n 128
-makes-none run n h = record { none = λ s far. h s; one = λ s near. let z : ⊥ = omega arith in absurd z }
+-- no task is made
+pub none-fits : (c : Change) → c .children ≡ 0 → Fits c
+none-fits c q = record { few = omega (arith, q); near = λ i h. let z : ⊥ = omega (arith, q, h) in absurd z }
 
 module _ (run : Run) (n : ℕ) (t : Record) (same : record-of run n ≡ t) where
   pub step-refused :
       (k : CallRefusal) → (SoundRun run → decided run step n ≡ refuse (refusal-number k)) → (c : Change) → c ≡ kept t (run .left) k
       → StepOf run run n c
+  unfolding with-children numbers
   step-refused k h c e =
-      subst (StepOf run run n) (sym e) (
-        (
-          λ far. change-refused step run n t k same h (kept t (run .left) k) refl,
-          λ near. let z : ⊥ = omega arith in absurd z,
-        ),
-        makes-none run n (λ s. ap made-by (h s)),
-      )
+      subst (StepOf run run n) (sym e)
+      (change-refused step run n t k same h (kept t (run .left) k) refl, λ s. ap made-by (h s))
 
   -- a plan of the task at this place
   module _
@@ -187,13 +185,11 @@ module _ (run : Run) (n : ℕ) (t : Record) (same : record-of run n ≡ t) where
           (next : Run) → holds-back p ≡ false → made-by (planned run n w p) ≡ [] → (own : Record)
           → Carries n place w p run (put n (counted own (run .left) w) next) → (c : Change) → c ≡ counted own (run .left) w
           → StepOf run next n c
+      unfolding with-children numbers
       step-own next free none own h c e =
           subst (StepOf run next n) (sym e) (
-            (
-              λ far. step-taken run n place w p (put n (counted own (run .left) w) next) free light there h,
-              λ near. let z : ⊥ = omega arith in absurd z,
-            ),
-            makes-none run n (λ s. ap made-by (there s .1) ∙ none),
+            step-taken run n place w p (put n (counted own (run .left) w) next) free light there h,
+            λ s. ap made-by (there s .1) ∙ none,
           )
 
   module _ (place w : ℕ) (light : w ≤ 8) (below : n < 128) where
@@ -249,18 +245,72 @@ module _ (run : Run) (n : ℕ) (t : Record) (same : record-of run n ≡ t) where
     -- a spawn, by what it promises
     pub step-spawn :
         (s f : ℕ) (next : Run) (c : Change) → Decided (Planned.Spawn s f) → c .answer ≡ Answers.Accepted
-        → Put (Carries n place w (Planned.Spawn s f) run) n c next
-        → (SoundRun run → Placed run n place → w ≤ 8 → decided run step n ≡ planned run n w (Planned.Spawn s f) → Makes run n (c .child))
+        → Carries n place w (Planned.Spawn s f) run (with-made c (put n c next))
+        → (SoundRun run → Placed run n place → w ≤ 8 → decided run step n ≡ planned run n w (Planned.Spawn s f) → Makes run n c)
         → StepOf run next n c
-    step-spawn s f next c there q h m =
-        let taken : (x : Run) → Carries n place w (Planned.Spawn s f) run x → ChangeOf step n run x (c .answer) =
-        λ x k. subst (ChangeOf step n run x) (sym q) (step-taken run n place w (Planned.Spawn s f) x refl light there k) in (
-          (λ far. taken _ (h .0 far), λ near. taken _ (h .1 near)),
-          record {
-            none = λ g far. m g (there g .0) light (there g .1) .none g far;
-            one = λ g near. m g (there g .0) light (there g .1) .one g near;
-          },
-        )
+    step-spawn s f next c there q h m = (
+      subst (ChangeOf step n run (with-made c (put n c next))) (sym q)
+          (step-taken run n place w (Planned.Spawn s f) (with-made c (put n c next)) refl light there h),
+      λ g. m g (there g .0) light (there g .1),
+    )
+
+-- The record of child i.
+pub child-first : (i : ℕ) (t : Record) → i ≡ 0 → t ≡ child-record i t
+unfolding child-record
+child-first i t q = ap (λ k. child-record k t) (sym q)
+
+pub child-later :
+    (i : ℕ) (t : Record) → (i ≡ 0 → ⊥)
+    → _≡_ {A = Record}
+    (record {
+      state = t .state;
+      body = t .body;
+      pc = t .pc;
+      registers = set (t .registers) 0 i;
+      steps = t .steps;
+      fault = t .fault;
+      weight = t .weight;
+    })
+    (child-record i t)
+unfolding child-record
+child-later zero t h = absurd (h refl)
+child-later (suc i) t h = refl
+
+-- The records of the first i children are still to be written.
+pub record ChildrenLeft (child apart : ℕ) (made : Record) (children : ℕ) (from : List Record) (i : ℕ) (rs : List Record) : Type 0 where
+  pub within : i ≤ children
+  pub same : with-children child apart made i rs ≡ with-children child apart made children from
+
+module _ (child apart : ℕ) (made : Record) (children : ℕ) (from : List Record) where
+  pub children-all : ChildrenLeft child apart made children from children from
+  children-all = record { within = omega arith; same = refl }
+
+  one-written :
+      (i : ℕ) (rs : List Record) → 0 < i
+      → with-children child apart made (i - 1) (set rs (child + (i - 1) * apart) (child-record (i - 1) made))
+      ≡ with-children child apart made i rs
+  unfolding with-children
+  one-written zero rs h = let z : ⊥ = omega arith in absurd z
+  one-written (suc i) rs h =
+      ap (λ k. with-children child apart made k (set rs (child + k * apart) (child-record k made))) (sub-one (suc i))
+
+  pub child-written :
+      (i : ℕ) (rs : List Record) → 0 < i → ChildrenLeft child apart made children from i rs → (t : Record) → t ≡ child-record (i - 1) made
+      → ChildrenLeft child apart made children from (i - 1) (set rs (child + (i - 1) * apart) t)
+  child-written i rs h left t q =
+      record {
+        within = omega (arith, left .within);
+        same =
+            ap (λ x. with-children child apart made (i - 1) (set rs (child + (i - 1) * apart) x)) q
+            ∙ one-written i rs h ∙ left .same;
+      }
+
+  pub children-written :
+      (i : ℕ) (rs : List Record) → i ≤ 0 → ChildrenLeft child apart made children from i rs
+      → rs ≡ with-children child apart made children from
+  unfolding with-children
+  children-written zero rs h left = left .same
+  children-written (suc i) rs h left = let z : ⊥ = omega (arith, h) in absurd z
 
 -- Whether the task is at its end.
 pub ends :

@@ -1,5 +1,5 @@
 -- What a spawn's change comes to. Assumes nothing.
-use Prim.Native.Nat.{ℕ, _+_, _≤_, _<_}
+use Prim.Native.Nat.{ℕ, zero, suc, _+_, _*_, _≤_, _<_}
 use mathlib.Core.Path.{_≡_, refl, sym, ap, subst, _∙_}
 use mathlib.Core.List.{List}
 use native.Mathlib.Omega.{arith}
@@ -23,10 +23,9 @@ use Rattle.runtime.specs.View.{SoundRun}
 use Rattle.runtime.specs.Calls.{decided}
 use Rattle.runtime.specs.Parts.{Placed, record-of, heavier}
 use Rattle.runtime.specs.Steps.{planned, passed, failed, newborn, Carries}
-use Rattle.runtime.specs.Changes.{with-parts, counted, put, with-task, Makes, Put}
+use Rattle.runtime.specs.Changes.{with-parts, counted, put, child-record, with-children, with-made, numbers, Makes, Fits}
 use Rattle.runtime.proofs.CallLaws.{applied}
 use Rattle.runtime.proofs.CarryLaws.{onward, with-rows, BornAs, denied-carried, made-carried, granted-makes, denied-makes}
-use Rattle.runtime.proofs.ChangeLaws.{makes-none}
 
 -- the change of a spawn that makes a task
 abbrev pub bearing : ℕ → Record → ℕ → ℕ → ℕ → Change
@@ -37,15 +36,17 @@ bearing body t left w k =
       left = left + 1;
       calls = 1;
       weight = w;
+      children = 1;
       child = k;
+      apart = 1;
       made = newborn body t;
     }
 
 -- a spawn of the task at this place, which leaves the lent parts as in `next`
 abbrev pub SpawnOf : ℕ → ℕ → ℕ → ℕ → ℕ → Run → Run → Change → Type 0
 SpawnOf n place w body f from next c =
-    (c .answer ≡ Answers.Accepted) × Put (Carries n place w (Planned.Spawn body f) from) n c next
-    × (SoundRun from → Placed from n place → w ≤ 8 → decided from step n ≡ planned from n w (Planned.Spawn body f) → Makes from n (c .child))
+    Carries n place w (Planned.Spawn body f) from (with-made c (put n c next))
+    × (SoundRun from → Placed from n place → w ≤ 8 → decided from step n ≡ planned from n w (Planned.Spawn body f) → Makes from n c)
 
 -- By the task's record and what the footprint grants.
 module _
@@ -62,16 +63,12 @@ module _
     pub spawn-denied :
         (k : ℕ) → g .grant ≡ Granted.Denied k → (c : Change) → c ≡ counted (failed k own) (run .left) w
         → SpawnOf n place w body f run run c
-    unfolding applied
+    unfolding applied with-children numbers
     spawn-denied k q c e =
         subst (SpawnOf n place w body f run run) (sym e) (
-          refl,
-          (
-            λ far. subst (λ t. Carries n place w (Planned.Spawn body f) run (put n (counted (failed k t) (run .left) w) run)) same
-                (denied-carried run n place w below body f g mine rows grants-own k q),
-            λ near. let z : ⊥ = omega arith in absurd z,
-          ),
-          λ s p light d. makes-none run n (λ s′. denied-makes run n place w below body f g mine rows grants-own k q s′ d),
+          subst (λ t. Carries n place w (Planned.Spawn body f) run (put n (counted (failed k t) (run .left) w) run)) same
+              (denied-carried run n place w below body f g mine rows grants-own k q),
+          λ s p light d. denied-makes run n place w below body f g mine rows grants-own k q s d,
         )
 
     module _ (q : g .grant ≡ Granted.Granted) (k : ℕ) (count : n < 128 → k ≡ number-by (run .tables) n (own .body) (own .pc)) where
@@ -84,11 +81,7 @@ module _
           → SpawnOf n place w body f run run c
       spawn-full full t c e =
           subst (SpawnOf n place w body f run run) (sym e) (
-            refl,
-            (
-              λ far. record { list = refl; effect = λ s p light x h d. absurd (never s light p (d ∙ sym h)) },
-              λ near. let z : ⊥ = omega arith in absurd z,
-            ),
+            record { list = refl; effect = λ s p light x h d. absurd (never s light p (d ∙ sym h)) },
             λ s p light d. absurd (never s light p d),
           )
         where
@@ -108,18 +101,20 @@ module _
         where
           abbrev after : Record → Run
           after t =
-              with-task k (newborn body t) (put n (bearing body t (run .left) w k) (with-parts (run .tables) (run .memory) modes order (run .left) run))
+              with-made (bearing body t (run .left) w k) (put n (bearing body t (run .left) w k) (with-parts (run .tables) (run .memory) modes order (run .left) run))
 
           born-as :
               BornAs place k (newborn body (record-of run n)) (g .modes) (onward n (passed 0 (record-of run n)) w run) (after (record-of run n))
-          unfolding applied
+          unfolding applied with-children child-record
           born-as =
+              let here : k + 0 ≡ k = omega arith in
               record {
                 list = refl;
                 wide = wide;
                 run =
                     λ l a b.
-                    ap (λ m. with-rows k (newborn body (record-of run n)) m order (onward n (passed 0 (record-of run n)) w run)) (put-in l a);
+                    ap (λ j. with-rows j (newborn body (record-of run n)) modes order (onward n (passed 0 (record-of run n)) w run)) here
+                    ∙ ap (λ m. with-rows k (newborn body (record-of run n)) m order (onward n (passed 0 (record-of run n)) w run)) (put-in l a);
                 whole = λ a b l. whole ∙ l;
                 order = λ l a b h. ahead l h b;
               }
@@ -127,18 +122,21 @@ module _
           pub spawn-made :
               (c : Change) → c ≡ bearing body own (run .left) w k
               → SpawnOf n place w body f run (with-parts (run .tables) (run .memory) modes order (run .left) run) c
+          unfolding numbers
           spawn-made c e =
               subst (SpawnOf n place w body f run (with-parts (run .tables) (run .memory) modes order (run .left) run)) (sym e) (
-                refl,
-                (
-                  λ far. let z : ⊥ = omega (arith, near, far) in absurd z,
-                  λ small. subst (λ t. Carries n place w (Planned.Spawn body f) run (after t)) same
-                      (made-carried run n place w below body f g mine rows grants-own q k count-own (after (record-of run n)) born-as),
-                ),
-                λ s p light d. record {
-                  none = λ s′ far. let z : ⊥ = omega (arith, near, far) in absurd z;
-                  one =
-                      λ s′ small.
-                      granted-makes run n place w below body f g mine rows grants-own q k count-own s light p d .0;
-                },
+                subst (λ t. Carries n place w (Planned.Spawn body f) run (after t)) same
+                    (made-carried run n place w below body f g mine rows grants-own q k count-own (after (record-of run n)) born-as),
+                λ s p light d. granted-makes run n place w below body f g mine rows grants-own q k count-own s light p d .0,
               )
+
+-- one task is made
+pub one-fits : (k : ℕ) → k < 128 → (c : Change) → c .children ≡ 1 → c .child ≡ k → c .apart ≡ 1 → Fits c
+one-fits k near c q at by =
+    record {
+      few = omega (arith, q);
+      near =
+          λ i h.
+          let z : i ≡ 0 = omega (arith, q, h) in
+          subst (λ j. c .child + j * c .apart < 128) (sym z) (omega (arith, near, at));
+    }

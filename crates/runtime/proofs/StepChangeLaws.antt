@@ -2,8 +2,6 @@
 use Prim.Native.Nat.{ℕ, _+_, _%_, _^_, _≤_, _<_}
 use mathlib.Core.Path.{_≡_, refl, sym, ap, subst, _∙_}
 use mathlib.Core.List.{List}
-use native.Mathlib.Omega.{arith}
-use native.Mathlib.Decide.{decLt}
 use lib.ListN.{length, getD, set}
 use Rattle.tasklist.specs.declared.Instruction.{Instruction}
 use Rattle.tasklist.specs.declared.Tables.{Tables}
@@ -28,10 +26,10 @@ use Rattle.runtime.specs.View.{SoundRun}
 use Rattle.runtime.specs.Calls.{decided, CalledAs}
 use Rattle.runtime.specs.Parts.{Placed, record-of}
 use Rattle.runtime.specs.Steps.{planned, passed, failed, holding, PlansIn}
-use Rattle.runtime.specs.Changes.{with-parts, finished, kept, counted, put, with-task, ChangeOf, ReadyIn, SpawnedBy, SteppedBy}
+use Rattle.runtime.specs.Changes.{with-parts, finished, kept, counted, put, with-children, with-made, ChangeOf, ReadyIn, Fits, SpawnedBy, SteppedBy}
 use Rattle.runtime.proofs.CallLaws.{called-refused}
 use Rattle.runtime.proofs.StepLaws.{step-settled}
-use Rattle.runtime.proofs.ChangeLaws.{step-refused, step-held, step-fault, step-assign, step-pass, step-store, step-spawn, ends}
+use Rattle.runtime.proofs.ChangeLaws.{step-refused, step-held, step-fault, step-assign, step-pass, step-store, step-spawn, none-fits, ends}
 
 module _ (tables : Tables) (memory modes order : List ℕ) (left : ℕ) (own : Record) (n : ℕ) where
   -- a run with the parts
@@ -53,7 +51,10 @@ module _ (tables : Tables) (memory modes order : List ℕ) (left : ℕ) (own : R
     pub change-before :
         (k : CallRefusal) → ReadyIn order left own size n (Refused k) → (c : Change) → c ≡ kept own left k
         → Stepped memory modes order c
-    change-before k ready c e = λ run same. step-refused (from run) n own same k (ready (from run) same fits) c e
+    change-before k ready c e = (
+      none-fits c (ap (λ (x : Change). x .children) e),
+      λ run same. step-refused (from run) n own same k (ready (from run) same fits) c e,
+    )
 
     pub steps-by :
         (place : ℕ) → ReadyIn order left own size n (At place) → (i : Instruction)
@@ -78,8 +79,10 @@ module _ (tables : Tables) (memory modes order : List ℕ) (left : ℕ) (own : R
   module _ (place w : ℕ) (p : StepPlan) (b : StepsBy place w p) where
     pub change-held :
         (k : CallRefusal) → p ≡ Planned.Held k → (c : Change) → c ≡ kept own left k → Stepped memory modes order c
-    change-held k q c e =
-        λ run same. step-held (from run) n own same place w (b .light) (b .below) p (b .decides run same) k q c e
+    change-held k q c e = (
+      none-fits c (ap (λ (x : Change). x .children) e),
+      λ run same. step-held (from run) n own same place w (b .light) (b .below) p (b .decides run same) k q c e,
+    )
 
     decides-as :
         (x : StepPlan) → p ≡ x → (run : Run) → record-of run n ≡ own → SoundRun (from run)
@@ -89,43 +92,53 @@ module _ (tables : Tables) (memory modes order : List ℕ) (left : ℕ) (own : R
     pub change-fault :
         (k : ℕ) → p ≡ Planned.Fault k → (t : Record) → t ≡ failed k own → (c : Change) → c ≡ counted t left w
         → Stepped memory modes order c
-    change-fault k q t f c e =
-        λ run same.
-        step-fault (from run) n own same place w (b .light) (b .below) k (decides-as (Planned.Fault k) q run same) c
-        (e ∙ ap (λ x. counted x left w) f)
+    change-fault k q t f c e = (
+      none-fits c (ap (λ (x : Change). x .children) e),
+      λ run same.
+          step-fault (from run) n own same place w (b .light) (b .below) k (decides-as (Planned.Fault k) q run same) c
+          (e ∙ ap (λ x. counted x left w) f),
+    )
 
     pub change-assign :
         (a v : ℕ) → p ≡ Planned.Assign a v → (s t : Record) → s ≡ passed 0 own → t ≡ holding a v s → (c : Change)
         → c ≡ counted t left w → Stepped memory modes order c
-    change-assign a v q s t f g c e =
-        λ run same.
-        step-assign (from run) n own same place w (b .light) (b .below) a v (decides-as (Planned.Assign a v) q run same) c
-        (e ∙ ap (λ x. counted x left w) (g ∙ ap (holding a v) f))
+    change-assign a v q s t f g c e = (
+      none-fits c (ap (λ (x : Change). x .children) e),
+      λ run same.
+          step-assign (from run) n own same place w (b .light) (b .below) a v (decides-as (Planned.Assign a v) q run same) c
+          (e ∙ ap (λ x. counted x left w) (g ∙ ap (holding a v) f)),
+    )
 
     pub change-pass :
         (k : ℕ) → k < 256 → p ≡ Planned.Pass k → (t : Record) → t ≡ passed k own → (c : Change) → c ≡ counted t left w
         → Stepped memory modes order c
-    change-pass k small q t f c e =
-        λ run same.
-        step-pass (from run) n own same place w (b .light) (b .below) k small (decides-as (Planned.Pass k) q run same) c
-        (e ∙ ap (λ x. counted x left w) f)
+    change-pass k small q t f c e = (
+      none-fits c (ap (λ (x : Change). x .children) e),
+      λ run same.
+          step-pass (from run) n own same place w (b .light) (b .below) k small (decides-as (Planned.Pass k) q run same) c
+          (e ∙ ap (λ x. counted x left w) f),
+    )
 
     pub change-store :
         (a v : ℕ) → p ≡ Planned.Store a v → (t : Record) → t ≡ passed 0 own → (m : List ℕ) → (length memory ≡ 64 → m ≡ set memory a v) → (c : Change)
         → c ≡ counted t left w → Stepped m modes order c
-    change-store a v q t f m g c e =
-        λ run same.
-        step-store (from run) n own same place w (b .light) (b .below) a v m g (decides-as (Planned.Store a v) q run same) c
-        (e ∙ ap (λ x. counted x left w) f)
+    change-store a v q t f m g c e = (
+      none-fits c (ap (λ (x : Change). x .children) e),
+      λ run same.
+          step-store (from run) n own same place w (b .light) (b .below) a v m g (decides-as (Planned.Store a v) q run same) c
+          (e ∙ ap (λ x. counted x left w) f),
+    )
 
     pub change-spawn :
         (s f : ℕ) → p ≡ Planned.Spawn s f → (modes′ order′ : List ℕ) (c : Change)
         → SpawnedBy tables modes order modes′ order′ left own n place s f w c
         → Stepped memory modes′ order′ c
-    change-spawn s f q modes′ order′ c h =
-        λ run same.
-        step-spawn (from run) n own same place w (b .light) (b .below) s f (with-parts tables memory modes′ order′ left run) c
-        (decides-as (Planned.Spawn s f) q run same) (h (from run) same .0) (h (from run) same .1) (h (from run) same .2)
+    change-spawn s f q modes′ order′ c h = (
+      h .1,
+      λ run same.
+          step-spawn (from run) n own same place w (b .light) (b .below) s f (with-parts tables memory modes′ order′ left run) c
+          (decides-as (Planned.Spawn s f) q run same) (h .0) (h .2 (from run) same .0) (h .2 (from run) same .1),
+    )
 
 -- The change put into the run.
 module _
@@ -137,12 +150,8 @@ module _
 
     pub stepped-refused :
         (k : CallRefusal) → c .answer ≡ Answers.Refused k → CalledAs step run n (record { answer = Answers.Refused k; run = run })
-    stepped-refused k q = called-refused step run n k (by-child (decLt 127 (c .child)))
-      where
-        by-child : Dec (127 < c .child) → SoundRun run → decided run step n ≡ refuse (refusal-number k)
-        by-child (yes far) = subst (ChangeOf step n run (put n c lent)) q (h run refl .0 .0 far) .0
-        by-child (no near) =
-            subst (ChangeOf step n run (with-task (c .child) (c .made) (put n c lent))) q (h run refl .0 .1 (omega arith)) .0
+    stepped-refused k q =
+        called-refused step run n k (subst (ChangeOf step n run (with-made c (put n c lent))) q (h .1 run refl .0) .0)
 
     -- accepted, with the counters as they were added up
     module _
@@ -174,12 +183,11 @@ module _
             subst (λ k. CalledAs step run n (next records k weight)) (sym cs)
             (subst (λ w. CalledAs step run n (next records ((run .calls + c .calls) % 2 ^ 32) w)) (sym ws) done)
 
-        pub stepped-alone : 127 < c .child → CalledAs step run n (next (set (run .records) n (c .own)) calls weight)
-        stepped-alone far =
-            added (set (run .records) n (c .own)) (subst (ChangeOf step n run (put n c lent)) q (h run refl .0 .0 far))
-
-        pub stepped-making :
-            c .child ≤ 127 → CalledAs step run n (next (set (set (run .records) n (c .own)) (c .child) (c .made)) calls weight)
-        stepped-making near =
-            added (set (set (run .records) n (c .own)) (c .child) (c .made))
-            (subst (ChangeOf step n run (with-task (c .child) (c .made) (put n c lent))) q (h run refl .0 .1 near))
+        pub stepped-taken :
+            (records : List Record)
+            → records ≡ with-children (c .child) (c .apart) (c .made) (c .children) (set (run .records) n (c .own))
+            → CalledAs step run n (next records calls weight)
+        stepped-taken records w =
+            added records
+            (subst (λ rs. CalledAs step run n (next rs ((run .calls + c .calls) % 2 ^ 32) ((run .weight + c .weight) % 2 ^ 32))) (sym w)
+            (subst (ChangeOf step n run (with-made c (put n c lent))) q (h .1 run refl .0)))

@@ -1,5 +1,5 @@
 -- What a call changes of a run, by the parts of the run that it looks at.
-use Prim.Native.Nat.{ℕ, _+_, _%_, _^_, _≤_, _<_}
+use Prim.Native.Nat.{ℕ, zero, suc, _+_, _*_, _%_, _^_, _≤_, _<_}
 use mathlib.Core.Path.{_≡_}
 use mathlib.Core.List.{List, [], _∷_}
 use mathlib.Core.Bool.{Bool, false, not, _||_}
@@ -88,7 +88,9 @@ kept t left k =
       left = left;
       calls = 0;
       weight = 0;
-      child = 128;
+      children = 0;
+      child = 0;
+      apart = 0;
       made = t;
     }
 
@@ -101,7 +103,9 @@ counted t left w =
       left = left;
       calls = 1;
       weight = w;
-      child = 128;
+      children = 0;
+      child = 0;
+      apart = 0;
       made = t;
     }
 
@@ -119,13 +123,33 @@ put n c run =
       weight = (run .weight + c .weight) % 2 ^ 32;
     }
 
--- the run with the record of a task that was made
-abbrev pub with-task : ℕ → Record → Run → Run
-with-task child made run =
+-- request 104: "Child i has R0 = i": the record of child i, by that of the foremost, child 0
+unfoldable pub child-record : ℕ → Record → Record
+child-record zero t = t
+child-record (suc i) t =
+    record {
+      state = t .state;
+      body = t .body;
+      pc = t .pc;
+      registers = set (t .registers) 0 (suc i);
+      steps = t .steps;
+      fault = t .fault;
+      weight = t .weight;
+    }
+
+-- the records with those of the first k children written, the last of them first
+unfoldable pub with-children : ℕ → ℕ → Record → ℕ → List Record → List Record
+with-children child apart made zero rs = rs
+with-children child apart made (suc k) rs =
+    with-children child apart made k (set rs (child + k * apart) (child-record k made))
+
+-- the run with the records of all tasks that a change makes
+abbrev pub with-made : Change → Run → Run
+with-made c run =
     record {
       tables = run .tables;
       memory = run .memory;
-      records = set (run .records) child made;
+      records = with-children (c .child) (c .apart) (c .made) (c .children) (run .records);
       modes = run .modes;
       order = run .order;
       left = run .left;
@@ -152,31 +176,36 @@ EndedBy order after left own size n c =
     (run : Run) → record-of run n ≡ own → BodySize size own run
     → ChangeOf «end» n (ordered order left run) (put n c (ordered after left run)) (c .answer)
 
--- the task that a step of task n makes; above 127 where it makes none
-pub record Makes (run : Run) (n child : ℕ) : Type 0 where
-  pub none : SoundRun run → 127 < child → made-by (decided run step n) ≡ []
-  pub one : SoundRun run → child ≤ 127 → made-by (decided run step n) ≡ child ∷ []
+-- k numbers from the first on, so far apart
+unfoldable pub numbers : ℕ → ℕ → ℕ → List ℕ
+numbers first apart zero = []
+numbers first apart (suc k) = first ∷ numbers (first + apart) apart k
 
--- a change with and without a task made, the lent parts left as in `next`
-abbrev pub Put : (Run → Type 0) → ℕ → Change → Run → Type 0
-Put promise n c next =
-    (127 < c .child → promise (put n c next)) × (c .child ≤ 127 → promise (with-task (c .child) (c .made) (put n c next)))
+-- these are the tasks that a step of task n makes, foremost first
+abbrev pub Makes : Run → ℕ → Change → Type 0
+Makes run n c = made-by (decided run step n) ≡ numbers (c .child) (c .apart) (c .children)
+
+-- the records of all tasks made have a place
+pub record Fits (c : Change) : Type 0 where
+  pub few : c .children ≤ 16
+  pub near : (i : ℕ) → i < c .children → c .child + i * c .apart < 128
 
 -- a spawn of the task at this place, which leaves other modes and another order
 abbrev pub SpawnedBy :
     Tables → List ℕ → List ℕ → List ℕ → List ℕ → ℕ → Record → ℕ → ℕ → ℕ → ℕ → ℕ → Change → Type 0
 SpawnedBy tables modes order modes′ order′ left own n place body f w c =
-    (run : Run) → record-of run n ≡ own
+    (c .answer ≡ Answers.Accepted) × Fits c
+    × ((run : Run) → record-of run n ≡ own
     → let from = with-parts tables (run .memory) modes order left run in
-    (c .answer ≡ Answers.Accepted)
-    × Put (Carries n place w (Spawn body f) from) n c (with-parts tables (run .memory) modes′ order′ left run)
-    × (SoundRun from → Placed from n place → w ≤ 8 → decided from step n ≡ planned from n w (Spawn body f) → Makes from n (c .child))
+    Carries n place w (Spawn body f) from (with-made c (put n c (with-parts tables (run .memory) modes′ order′ left run)))
+    × (SoundRun from → Placed from n place → w ≤ 8 → decided from step n ≡ planned from n w (Spawn body f) → Makes from n c))
 
 -- a step, which leaves another memory, other modes and another order
 abbrev pub SteppedBy :
     Tables → List ℕ → List ℕ → List ℕ → List ℕ → List ℕ → List ℕ → ℕ → Record → ℕ → Change → Type 0
 SteppedBy tables memory modes order memory′ modes′ order′ left own n c =
-    (run : Run) → record-of run n ≡ own
+    Fits c
+    × ((run : Run) → record-of run n ≡ own
     → let from = with-parts tables memory modes order left run in
-    Put (λ next. ChangeOf step n from next (c .answer)) n c (with-parts tables memory′ modes′ order′ left run)
-    × Makes from n (c .child)
+    ChangeOf step n from (with-made c (put n c (with-parts tables memory′ modes′ order′ left run))) (c .answer)
+    × (SoundRun from → Makes from n c))

@@ -4,7 +4,7 @@ ghost use mathlib.Core.Path.{_≡_};
 ghost use lib.ListN.{length, set};
 ghost use Rattle.runtime.specs.Parts.{with-state};
 ghost use Rattle.runtime.specs.Steps.{passed, failed, holding, newborn};
-ghost use Rattle.runtime.specs.Changes.{kept, counted, SpawnedBy};
+ghost use Rattle.runtime.specs.Changes.{kept, counted, child-record, SpawnedBy};
 use crate::Change;
 use semantics::Answer;
 use semantics::CallRefusal;
@@ -83,6 +83,20 @@ fn newborn(own: Record, body: u8) -> Record
     }
 }
 
+// Request 104: "Child i has R0 = i." The record of child i, by that of the foremost.
+pub fn child_record(made: Record, i: u32) -> Record
+    ensures { λ r. ⌜ r ≡ child-record i made ⌝ }
+{
+    if i == 0 {
+        return made;
+    }
+    let mut registers = made.registers;
+    registers[0] = i;
+    let mut next = made;
+    next.registers = registers;
+    next
+}
+
 // A record with another state.
 pub fn in_state(own: Record, state: u8) -> Record
     ensures { λ r. ⌜ r ≡ with-state state own ⌝ }
@@ -102,7 +116,9 @@ pub fn unchanged(own: Record, left: usize, refusal: CallRefusal) -> Change
         left,
         calls: 0,
         weight: 0,
-        child: 128,
+        children: 0,
+        child: 0,
+        apart: 0,
         made: own,
     }
 }
@@ -119,7 +135,9 @@ pub fn changed(own: Record, left: usize, weight: u32) -> Change
         left,
         calls: 1,
         weight,
-        child: 128,
+        children: 0,
+        child: 0,
+        apart: 0,
         made: own,
     }
 }
@@ -170,7 +188,9 @@ pub fn spawned(
                 left: left + 1,
                 calls: 1,
                 weight,
+                children: 1,
                 child,
+                apart: 1,
                 made,
             }
         }

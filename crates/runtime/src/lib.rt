@@ -84,7 +84,7 @@ pub enum StepPlan {
     Spawn { body: u8, footprint: u8 },
 }
 
-// What a call changes: the task's record, how many tasks are left, what is counted, and the task made. The memory, the modes
+// What a call changes: the task's record, how many tasks are left, what is counted, and the tasks made. The memory, the modes
 // and the order are changed where they stand.
 pub struct Change {
     pub answer: Answer,
@@ -93,8 +93,10 @@ pub struct Change {
     // calls accepted, 1 or 0, and their weight
     pub calls: u32,
     pub weight: u32,
-    // the task made, above 127 for none, and its record
+    // how many tasks are made, the number of the foremost, how far their numbers are apart, and the foremost's record
+    pub children: usize,
     pub child: usize,
+    pub apart: usize,
     pub made: Record,
 }
 
@@ -108,6 +110,7 @@ mod step;
 pub use calls::at_end;
 pub use calls::end_change;
 pub use calls::start_change;
+pub use carry::child_record;
 pub use opening::open;
 pub use state::blank_record;
 pub use step::step_change;

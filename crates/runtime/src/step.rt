@@ -13,6 +13,7 @@ use crate::calls::at_end;
 use crate::calls::out_of_range;
 use crate::calls::place_of;
 use crate::carry::changed;
+use crate::carry::child_record;
 use crate::carry::failed;
 use crate::carry::holding;
 use crate::carry::passed;
@@ -156,29 +157,20 @@ impl Run {
             },
             Answer::Accepted => {
                 let next = change.own;
-                let made = change.made;
-                let child = change.child;
                 let mut records = self.records;
                 records[n] = next;
                 let calls = std::num::wrapping_add_u32(self.calls, change.calls);
                 let weight = std::num::wrapping_add_u32(self.weight, change.weight);
-                if 127 < child {
-                    let run = Run {
-                        tables,
-                        memory,
-                        records,
-                        modes,
-                        order,
-                        left: change.left,
-                        calls,
-                        weight,
-                    };
-                    return Called {
-                        answer: Answer::Accepted,
-                        run,
-                    };
+                let made = change.made;
+                let child = change.child;
+                let apart = change.apart;
+                // the tasks made, the last first
+                let mut i = change.children;
+                while 0 < i {
+                    i -= 1;
+                    let born = child_record(made, i as u32);
+                    records[child + i * apart] = born;
                 }
-                records[child] = made;
                 let run = Run {
                     tables,
                     memory,

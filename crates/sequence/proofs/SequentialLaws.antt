@@ -1,10 +1,11 @@
 -- The sequential run of the code: changes put into the run that is put together, a task that is run whole, and the run that
 -- is handed back. Assumes nothing.
-use Prim.Native.Nat.{ℕ, zero, suc, _+_, _-_, _%_, _^_, _≤_, _<_}
+use Prim.Native.Nat.{ℕ, zero, suc, _+_, _-_, _*_, _%_, _^_, _≤_, _<_}
 use mathlib.Core.Path.{_≡_, refl, sym, ap, subst, _∙_}
 use mathlib.Core.List.{List, [], _∷_}
 use mathlib.Core.Bool.{Bool, true, false, cond}
 use native.Mathlib.Omega.{arith}
+use native.Mathlib.Nat.{suc-mul}
 use native.Mathlib.Numerals.{add-one, sub-one}
 use lib.ListN.{length, set}
 use Rattle.tasklist.specs.declared.Tables.{Tables}
@@ -26,11 +27,11 @@ use Rattle.runtime.specs.View.{model, context-of, SoundRun}
 use Rattle.runtime.specs.Calls.{call-of, decided, CallsMade}
 use Rattle.runtime.specs.Parts.{record-of}
 use Rattle.runtime.specs.Asked.{open-number, OpenedAs}
-use Rattle.runtime.specs.Changes.{BodySize, put, with-task, StartedBy, EndedBy, SteppedBy, Makes}
+use Rattle.runtime.specs.Changes.{BodySize, put, child-record, with-children, with-made, StartedBy, EndedBy, numbers, SteppedBy, Makes}
 use Rattle.sequence.specs.declared.Progress.{Progress}
 use Rattle.sequence.specs.Replays.{joined, RunWhole}
 use Rattle.runtime.proofs.CallLaws.{own-task}
-use Rattle.runtime.proofs.ChangeLaws.{change-made}
+use Rattle.runtime.proofs.ChangeLaws.{change-made, ChildrenLeft, children-all, child-written, children-written}
 use Rattle.sequence.proofs.ReplayLaws.{still-unopened, Fresh, now-fresh}
 
 -- A change put into the run that is put together.
@@ -38,8 +39,8 @@ abbrev pub onward : Progress → ℕ → Change → ℕ → ℕ → Progress
 onward p n c calls weight =
     record { records = set (p .records) n (c .own); left = c .left; calls = calls; weight = weight }
 
-abbrev pub with-record : Progress → ℕ → Record → Progress
-with-record p k t = record { records = set (p .records) k t; left = p .left; calls = p .calls; weight = p .weight }
+abbrev pub with-records : Progress → List Record → Progress
+with-records p rs = record { records = rs; left = p .left; calls = p .calls; weight = p .weight }
 
 module _
     (tables : Tables) (p : Progress) (memory modes order : List ℕ) (n : ℕ) (c : Change) (calls weight : ℕ)
@@ -77,20 +78,42 @@ module _
         (change-made «end» before n (put n c (joined tables p memory modes o)) (c .answer) (h before refl fits))
 
     module _ (m ms o : List ℕ) (h : SteppedBy tables memory modes order m ms o (p .left) (record-of before n) n c) where
-      pub step-joined : 127 < c .child → CallsMade (call-of step n ∷ []) before (joined tables (onward p n c calls weight) m ms o)
-      step-joined far =
-          subst (CallsMade (call-of step n ∷ []) before) (sym (put-joined m ms o))
-          (change-made step before n (put n c (joined tables p m ms o)) (c .answer) (h before refl .0 .0 far))
+      -- with the records of the tasks made
+      pub step-joined :
+          (q : Progress)
+          → q ≡ with-records (onward p n c calls weight) (with-children (c .child) (c .apart) (c .made) (c .children) (set (p .records) n (c .own)))
+          → CallsMade (call-of step n ∷ []) before (joined tables q m ms o)
+      step-joined q written =
+          subst (λ x. CallsMade (call-of step n ∷ []) before (joined tables x m ms o)) (sym written)
+          (subst (λ x. CallsMade (call-of step n ∷ []) before (with-made c x)) (sym (put-joined m ms o))
+          (change-made step before n (with-made c (put n c (joined tables p m ms o))) (c .answer) (h .1 before refl .0)))
 
-      pub spawn-joined :
-          c .child ≤ 127
-          → CallsMade (call-of step n ∷ []) before (joined tables (with-record (onward p n c calls weight) (c .child) (c .made)) m ms o)
-      spawn-joined near =
-          subst (λ x. CallsMade (call-of step n ∷ []) before (with-task (c .child) (c .made) x)) (sym (put-joined m ms o))
-          (change-made step before n (with-task (c .child) (c .made) (put n c (joined tables p m ms o))) (c .answer) (h before refl .0 .1 near))
+      pub makes-joined : SoundRun before → Makes before n c
+      makes-joined = h .1 before refl .1
 
-      pub makes-joined : Makes before n (c .child)
-      makes-joined = h before refl .1
+-- The records of the first i tasks made are still to be written; the rest is as it was.
+pub record Writing (child apart : ℕ) (made : Record) (children : ℕ) (from : Progress) (i : ℕ) (p : Progress) : Type 0 where
+  pub children-left : ChildrenLeft child apart made children (from .records) i (p .records)
+  pub rest : p ≡ with-records from (p .records)
+
+module _ (child apart : ℕ) (made : Record) (children : ℕ) (from : Progress) where
+  pub writing-all : Writing child apart made children from children from
+  writing-all = record { children-left = children-all child apart made children (from .records); rest = refl }
+
+  pub writing-one :
+      (i : ℕ) (p : Progress) → 0 < i → Writing child apart made children from i p → (t : Record) → t ≡ child-record (i - 1) made
+      → Writing child apart made children from (i - 1) (with-records p (set (p .records) (child + (i - 1) * apart) t))
+  writing-one i p h w t q =
+      record {
+        children-left = child-written child apart made children (from .records) i (p .records) h (w .children-left) t q;
+        rest = ap (λ x. with-records x (set (p .records) (child + (i - 1) * apart) t)) (w .rest);
+      }
+
+  pub writing-done :
+      (i : ℕ) (p : Progress) → i ≤ 0 → Writing child apart made children from i p
+      → p ≡ with-records from (with-children child apart made children (from .records))
+  writing-done i p h w =
+      w .rest ∙ ap (with-records from) (children-written child apart made children (from .records) i (p .records) h (w .children-left))
 
 -- How many steps a body has room for.
 module _ (run : Run) (n : ℕ) (below : n < 128) (size : ℕ)
@@ -144,11 +167,80 @@ turn-ended bodies n limit from t r before b ends q =
       sound = before .sound;
     }
 
--- one turn: a step, and the task that it made
+-- The tasks that are still to be run whole: from number j of them on in r, and from the first on in the run `from`.
+pub record EachLeft (bodies child apart children : ℕ) (from : Run) (j : ℕ) (r : Run) : Type 0 where
+  pub within : j ≤ children
+  pub list : r .tables ≡ from .tables
+  pub run :
+      SoundRun from
+      → run-each (run-whole (context-of from) (bodies - 1)) (numbers child apart children) (model from)
+      ≡ run-each (run-whole (context-of from) (bodies - 1)) (numbers (child + j * apart) apart (children - j)) (model r)
+  pub sound : SoundRun from → SoundRun r
+
+pub each-all : (bodies child apart children : ℕ) (from : Run) → EachLeft bodies child apart children from 0 from
+each-all bodies child apart children from =
+    let first : child ≡ child + 0 * apart = omega arith in
+    let all : children ≡ children - 0 = omega arith in
+    record {
+      within = omega arith;
+      list = refl;
+      run =
+          λ s.
+          ap (λ k. run-each (run-whole (context-of from) (bodies - 1)) (numbers k apart children) (model from)) first
+          ∙ ap (λ k. run-each (run-whole (context-of from) (bodies - 1)) (numbers (child + 0 * apart) apart k) (model from)) all;
+      sound = λ s. s;
+    }
+
+-- one of them is run whole
+module _ (whole : ℕ → Semantics.Run → Semantics.Run) (m : Semantics.Run) where
+  one-each :
+      (first apart k : ℕ) → 0 < k
+      → run-each whole (numbers first apart k) m ≡ run-each whole (numbers (first + apart) apart (k - 1)) (whole first m)
+  unfolding run-each numbers
+  one-each first apart zero h = let z : ⊥ = omega (arith, h) in absurd z
+  one-each first apart (suc k) h =
+      ap (λ j. run-each whole (numbers (first + apart) apart j) (whole first m)) (sym (sub-one (suc k)))
+
+  none-each : (first apart k : ℕ) → k ≤ 0 → run-each whole (numbers first apart k) m ≡ m
+  unfolding run-each numbers
+  none-each first apart zero h = refl
+  none-each first apart (suc k) h = let z : ⊥ = omega (arith, h) in absurd z
+
+module _ (bodies child apart children : ℕ) (from : Run) (j : ℕ) (r : Run) (more : j < children) (before : EachLeft bodies child apart children from j r) where
+  abbrev every : ℕ → Semantics.Run → Semantics.Run
+  every = run-whole (context-of from) (bodies - 1)
+
+  next-number : child + j * apart + apart ≡ child + (j + 1) * apart
+  next-number =
+      let up : (j + 1) * apart ≡ j * apart + apart = ap (λ k. k * apart) (add-one j) ∙ suc-mul j apart in
+      omega (arith, up)
+
+  fewer : children - j - 1 ≡ children - (j + 1)
+  fewer = omega arith
+
+  pub each-one : (d : Run) → RunWhole (bodies - 1) (child + j * apart) r d → EachLeft bodies child apart children from (j + 1) d
+  each-one d w =
+      record {
+        within = omega (arith, more);
+        list = w .list ∙ before .list;
+        run =
+            λ s.
+            before .run s
+            ∙ one-each every (model r) (child + j * apart) apart (children - j) (omega (arith, more))
+            ∙ ap (λ k. run-each every (numbers k apart (children - j - 1)) (every (child + j * apart) (model r))) next-number
+            ∙ ap (λ k. run-each every (numbers (child + (j + 1) * apart) apart k) (every (child + j * apart) (model r))) fewer
+            ∙ ap (run-each every (numbers (child + (j + 1) * apart) apart (children - (j + 1))))
+            (ap (λ y. run-whole (context (list-of y)) (bodies - 1) (child + j * apart) (model r)) (sym (before .list))
+            ∙ sym (w .run (before .sound s)));
+        sound = λ s. w .sound (before .sound s);
+      }
+
+-- one turn: a step, and the tasks that it made
 module _
     (bodies n limit : ℕ) (from : Run) (t : ℕ) (r next : Run) (before : StepsLeft bodies n limit from t r) (more : 0 < t) (b : Bool)
     (ends : SoundRun r → b ≡ at-end (context-of r) (task-of (model r) n)) (going : b ≡ false)
-    (stepped : CallsMade (call-of step n ∷ []) r next) (x : ℕ) (made : Makes r n x)
+    (stepped : CallsMade (call-of step n ∷ []) r next) (child apart children : ℕ)
+    (made : SoundRun r → made-by (decided r step n) ≡ numbers child apart children)
   where
     abbrev whole : ℕ → Semantics.Run → Semantics.Run
     whole = run-whole (context-of from) (bodies - 1)
@@ -167,32 +259,22 @@ module _
         (sym (before .list))
         ∙ q)
 
-    pub turn-none : 127 < x → StepsLeft bodies n limit from (t - 1) next
-    unfolding run-each after-all
-    turn-none h =
+    pub turn-taken :
+        (j : ℕ) (d : Run) → children ≤ j → EachLeft bodies child apart children next j d → StepsLeft bodies n limit from (t - 1) d
+    unfolding after-all
+    turn-taken j d h each =
         record {
-          list = stepped .list ∙ before .list;
+          list = each .list ∙ stepped .list ∙ before .list;
           run =
               λ s.
-              turn (model next) s
-              (ap (λ ks. run-each whole ks (after (context-of r) (model r) (step-of n))) (made .none (before .sound s) h)
-              ∙ sym (stepped .run (before .sound s)));
-          sound = λ s. stepped .sound (before .sound s);
-        }
-
-    pub turn-child : x ≤ 127 → (d : Run) → RunWhole (bodies - 1) x next d → StepsLeft bodies n limit from (t - 1) d
-    unfolding run-each after-all
-    turn-child h d w =
-        record {
-          list = w .list ∙ stepped .list ∙ before .list;
-          run =
-              λ s.
+              let s₁ = stepped .sound (before .sound s) in
               turn (model d) s
-              (ap (λ ks. run-each whole ks (after (context-of r) (model r) (step-of n))) (made .one (before .sound s) h)
-              ∙ ap (whole x) (sym (stepped .run (before .sound s)))
-              ∙ ap (λ y. run-whole (context (list-of y)) (bodies - 1) x (model next)) (sym (stepped .list ∙ before .list))
-              ∙ sym (w .run (stepped .sound (before .sound s))));
-          sound = λ s. w .sound (stepped .sound (before .sound s));
+              (ap (λ ks. run-each whole ks (after (context-of r) (model r) (step-of n))) (made (before .sound s))
+              ∙ ap (run-each whole (numbers child apart children)) (sym (stepped .run (before .sound s)))
+              ∙ ap (λ y. run-each (run-whole (context (list-of y)) (bodies - 1)) (numbers child apart children) (model next)) (sym (stepped .list ∙ before .list))
+              ∙ each .run s₁
+              ∙ none-each (run-whole (context-of next) (bodies - 1)) (model d) (child + j * apart) apart (children - j) (omega (arith, h)));
+          sound = λ s. each .sound (stepped .sound (before .sound s));
         }
 
 -- no body left

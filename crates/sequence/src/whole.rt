@@ -52,12 +52,30 @@ fn run_whole(
         p.weight = std::num::wrapping_add_u32(p.weight, change.weight);
         steps -= 1;
         let child = change.child;
-        if 127 < child {
-            continue;
-        }
+        let apart = change.apart;
+        let children = change.children;
         let made = change.made;
-        p.records[child] = made;
-        p = run_whole(tables, p, memory, modes, order, child, bodies - 1);
+        // the records of the tasks made, the last first
+        let mut i = children;
+        while 0 < i {
+            i -= 1;
+            let born = runtime::child_record(made, i as u32);
+            p.records[child + i * apart] = born;
+        }
+        // each is run whole, the foremost first
+        let mut j = 0;
+        while j < children {
+            p = run_whole(
+                tables,
+                p,
+                memory,
+                modes,
+                order,
+                child + j * apart,
+                bodies - 1,
+            );
+            j += 1;
+        }
     }
     let own = p.records[task];
     let size = listing::row_size(tables.bodies, &tables.sizes, 32, own.body as usize);

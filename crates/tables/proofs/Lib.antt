@@ -5,3 +5,4 @@ pub mod RowLaws
 pub mod SearchLaws
 pub mod GrantLaws
 pub mod NumberLaws
+pub mod ChildLaws

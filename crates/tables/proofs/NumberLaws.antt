@@ -8,10 +8,10 @@ use native.Mathlib.Numerals.{add-one}
 use lib.ListN.{length, take, drop, getD, length-take, drop-of-length-le}
 use lib.Seq.{drop-cons, getD-take}
 use Rattle.tasklist.specs.declared.Instruction.{Instruction}
-use Rattle.tasklist.specs.declared.Instruction.the-variants.{Const, Add, Sub, Less, Load, Store, Skip, Spawn, Wait}
 use Rattle.tasklist.specs.declared.Tables.{Tables}
 use Rattle.tasklist.specs.TaskList.{body-of, instruction-of, blank-instruction, total, adds, task-count}
 use Rattle.tasklist.specs.Tables.{list-of, capped, Holds}
+use Rattle.tasklist.proofs.CountLaws.{total-capped}
 use Rattle.semantics.specs.Run.{Task, Context}
 use Rattle.semantics.specs.Plan.{child-number}
 use Rattle.tables.specs.Numbers.{number-by}
@@ -56,26 +56,6 @@ module _ (t : Tables) (task body pc : ℕ) where
       let past : length ahead-of ≤ i = omega (arith, length-take pc (body-of (list-of t) body)) in
       let none-left : total counted (drop i ahead-of) ≡ 0 = ap (total counted) (drop-of-length-le ahead-of past) in
       omega (arith, none-left, e)
-
--- counts capped at 129 add up to the same, where the sum is no more
-adds-capped : (f : ℕ → ℕ) (x : Instruction) → adds (λ a. capped (f a)) x ≡ capped (adds f x)
-unfolding adds
-adds-capped f (Const a v) = refl
-adds-capped f (Add a b c) = refl
-adds-capped f (Sub a b c) = refl
-adds-capped f (Less a b c) = refl
-adds-capped f (Load a b) = refl
-adds-capped f (Store a b) = refl
-adds-capped f (Skip a b) = refl
-adds-capped f (Spawn a b) = refl
-adds-capped f (Wait a) = refl
-
-total-capped : (f : ℕ → ℕ) (xs : List Instruction) → total (adds f) xs ≤ 129 → total (adds (λ a. capped (f a))) xs ≡ total (adds f) xs
-unfolding total
-total-capped f [] h = refl
-total-capped f (x ∷ xs) h =
-    let small : adds f x + total (adds f) xs ≤ 129 = h in
-    omega (arith, adds-capped f x, total-capped f xs (omega arith))
 
 -- the model's number, where it is a task's
 pub number-holds : (c : Context) (tables : Tables) → Holds tables (c .list) → (n : ℕ) (t : Task) → child-number c n t < 128

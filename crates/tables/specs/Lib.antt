@@ -3,4 +3,5 @@ pub mod Places
 pub mod Rows
 pub mod Ahead
 pub mod Grants
+pub mod Children
 pub mod Numbers

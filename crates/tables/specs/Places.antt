@@ -1,5 +1,5 @@
 -- Places in the order.
-use Prim.Native.Nat.{ℕ, suc}
+use Prim.Native.Nat.{ℕ, zero, suc, _+_, _*_}
 use mathlib.Core.List.{List, [], _∷_, _++_}
 use mathlib.Core.Bool.{cond}
 use lib.ListN.{take, drop}
@@ -24,3 +24,8 @@ insert-at at x xs = take at xs ++ x ∷ drop at xs
 -- all but the one at a place
 unfoldable pub without : ℕ → List ℕ → List ℕ
 without at xs = take at xs ++ drop (suc at) xs
+
+-- the first k children put at a place, the last of them first
+unfoldable pub insert-all : ℕ → ℕ → ℕ → ℕ → List ℕ → List ℕ
+insert-all at child apart zero xs = xs
+insert-all at child apart (suc k) xs = insert-all at child apart k (insert-at at (child + k * apart) xs)

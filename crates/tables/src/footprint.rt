@@ -5,7 +5,9 @@ ghost use Rattle.tasklist.specs.TaskList.{footprint-of};
 ghost use Rattle.tasklist.specs.Tables.{list-of};
 ghost use Rattle.semantics.specs.Access.{access-fault};
 ghost use Rattle.semantics.specs.Footprint.{merged, child-modes};
-ghost use Rattle.tables.specs.Grants.{named-location, named-mode, spawner, grant-of};
+ghost use Rattle.tables.specs.Grants.{named-location, named-mode, spawner, grant-of, child-registers, child-grant, is-denied, grants-from};
+ghost use Rattle.semantics.specs.Run.{no-modes};
+ghost use Rattle.semantics.specs.Footprint.{granted};
 use crate::Grant;
 use crate::Granting;
 use crate::modes::mode_in;
@@ -129,4 +131,54 @@ pub fn granted(tables: Tables, footprint: usize, registers: [u32; 4], own: [u8; 
         grant: Grant::Granted,
         modes,
     }
+}
+
+// Request 104: "Child i has R0 = i." The registers of child i, by those of the foremost, child 0.
+pub fn child_registers(registers: [u32; 4], i: u32) -> [u32; 4]
+    ensures { λ r. ⌜ r ≡ child-registers i registers ⌝ }
+{
+    if i == 0 {
+        return registers;
+    }
+    let mut out = registers;
+    out[0] = i;
+    out
+}
+
+// Whether a grant is a fault.
+fn is_denied(grant: Grant) -> bool
+    ensures { λ r. ⌜ r ≡ is-denied grant ⌝ }
+{
+    match grant {
+        Grant::Denied(_) => true,
+        Grant::Granted => false,
+    }
+}
+
+// What a footprint gives the children of a task, by the registers that the foremost has: "in order of children and lines" the
+// first fault, else the modes of the last child.
+pub fn granted_all(
+    tables: Tables,
+    footprint: usize,
+    registers: [u32; 4],
+    own: [u8; 64],
+    children: u8,
+) -> Granting
+    ensures { λ r. ⌜ grant-of r ≡ grants-from (child-grant registers own (footprint-of (list-of tables) footprint)) 0 children (granted no-modes) ⌝ }
+{
+    let mut given = Granting {
+        grant: Grant::Granted,
+        modes: [0u8; 64],
+    };
+    let mut i: u8 = 0;
+    while i < children {
+        let seen = child_registers(registers, i as u32);
+        given = granted(tables, footprint, seen, own);
+        let grant = given.grant;
+        if is_denied(grant) {
+            return given;
+        }
+        i += 1;
+    }
+    given
 }

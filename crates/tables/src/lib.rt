@@ -36,14 +36,19 @@ pub struct Wanted {
     pub asked: [u8; 64],
 }
 
+mod children;
 mod footprint;
 mod modes;
 mod number;
 mod order;
 mod search;
 
+pub use children::fits;
+pub use children::put_children;
 pub use footprint::access_fault;
+pub use footprint::child_registers;
 pub use footprint::granted;
+pub use footprint::granted_all;
 pub use footprint::register_at;
 pub use modes::mode_at;
 pub use modes::mode_in;

@@ -2,7 +2,6 @@
 ghost use Prim.Native.Nat.{_+_, _<_};
 ghost use mathlib.Core.Path.{_≡_};
 ghost use Rattle.tables.specs.Numbers.{number-by};
-use crate::search::wide;
 use listing::row_size;
 use tasklist::Tables;
 use tasklist::added;
@@ -23,8 +22,7 @@ pub fn child_number(tables: Tables, task: usize, body: usize, pc: usize) -> usiz
         }
         let cell = tables.cells[32 * body + i];
         let instruction = cell.instruction;
-        let counts = tables.counts;
-        n += wide(added(instruction, counts));
+        n += added(instruction, &tables.counts);
         i += 1;
     }
     n

@@ -12,7 +12,7 @@ use Rattle.runtime.specs.View.{model, context-of, SoundRun}
 use Rattle.runtime.specs.Parts.{record-of}
 use Rattle.runtime.proofs.ChangeLaws.{ends}
 use Rattle.sequence.specs.Replays.{joined}
-use Rattle.sequence.proofs.SequentialLaws.{onward, with-record, start-joined, step-joined, spawn-joined, makes-joined, end-joined, enough-steps, StepsLeft, steps-all, turn-ended, turn-none, turn-child, whole-none, whole-spent}
+use Rattle.sequence.proofs.SequentialLaws.{onward, with-records, start-joined, step-joined, makes-joined, end-joined, Writing, writing-all, writing-one, writing-done, enough-steps, StepsLeft, steps-all, EachLeft, each-all, each-one, turn-ended, turn-taken, whole-none, whole-spent}
 use borrow.Author.Needs.{needs}
 use borrow.Fn.Kinds.{In}
 use borrow.Fn.PlainCycle.{Measures, is, falls, and}
@@ -23,6 +23,7 @@ use Rattle.listing.proofs.row_size.Reads as row-size-reads
 use Rattle.runtime.proofs.at_end.Reads as at-end-reads
 use Rattle.runtime.proofs.end_change.Reads as end-change-reads
 use Rattle.runtime.proofs.start_change.Reads as start-change-reads
+use Rattle.runtime.proofs.child_record.Reads as child-record-reads
 use Rattle.runtime.proofs.step_change.Reads as step-change-reads
 use Rattle.std.proofs.num.wrapping_add_u32.Reads as wrapping-add-u32-reads
 use Rattle.sequence.proofs.whole.+run_whole.{statement}
@@ -37,6 +38,20 @@ run-whole-at t = and 3 run-whole-kinds.ps (is 3 run-whole-kinds.ps μ-run-whole 
 abbrev run-whole-below : ℕ → In 3 run-whole-kinds.ps
 run-whole-below t =
     and 3 run-whole-kinds.ps (falls 3 run-whole-kinds.ps _<_ μ-run-whole t) run-whole.Pre
+
+abbrev run-whole-Inv-loop2 : run-whole-lts.InvT-loop2
+run-whole-Inv-loop2 memory modes order task bodies tables p₀ size steps size' child apart children made i₀ p i =
+    Writing child apart made i₀ p₀ i p
+
+abbrev run-whole-μ-loop2 : run-whole-lts.MeasureT-loop2
+run-whole-μ-loop2 memory modes order task bodies tables p₀ size steps size' child apart children made i₀ p i = i
+
+abbrev run-whole-Inv-loop3 : run-whole-lts.InvT-loop3
+run-whole-Inv-loop3 memory₀ modes₀ order₀ task bodies tables p₀ size steps size' child apart children i j₀ memory modes order p j =
+    EachLeft bodies child apart children (joined tables p₀ memory₀ modes₀ order₀) j (joined tables p memory modes order)
+
+abbrev run-whole-μ-loop3 : run-whole-lts.MeasureT-loop3
+run-whole-μ-loop3 memory₀ modes₀ order₀ task bodies tables p₀ size steps size' child apart children i j₀ memory modes order p j = children - j
 
 abbrev run-whole-Inv-loop : run-whole-lts.InvT-loop
 run-whole-Inv-loop memory₀ modes₀ order₀ task bodies tables p₀ size steps₀ memory modes order p steps =
@@ -57,11 +72,21 @@ run-whole-returns : (t : ℕ) → run-whole-lts.Need-returns (
   at-end-reads.Learnt,
   step-change-reads.Asked,
   step-change-reads.Learnt,
+  child-record-reads.Asked,
+  child-record-reads.Learnt,
   run-whole-below t,
   run-whole.Post,
   end-change-reads.Asked,
   end-change-reads.Learnt,
-) (run-whole-at t) run-whole.Post run-whole-Inv-loop run-whole-μ-loop
+)
+    (run-whole-at t)
+    run-whole.Post
+    run-whole-Inv-loop2
+    run-whole-μ-loop2
+    run-whole-Inv-loop3
+    run-whole-μ-loop3
+    run-whole-Inv-loop
+    run-whole-μ-loop
 run-whole-returns t c =
     let a = c .before .args in
     whole-none (a .bodies) (a .task) (joined (a .t1) (a .progress) (now (a .memory)) (now (a .modes)) (now (a .order))) (c .if1 .taken)
@@ -78,11 +103,21 @@ run-whole-mul-own : (t : ℕ) → run-whole-lts.Need-mul-own (
   at-end-reads.Learnt,
   step-change-reads.Asked,
   step-change-reads.Learnt,
+  child-record-reads.Asked,
+  child-record-reads.Learnt,
   run-whole-below t,
   run-whole.Post,
   end-change-reads.Asked,
   end-change-reads.Learnt,
-) (run-whole-at t) run-whole.Post run-whole-Inv-loop run-whole-μ-loop
+)
+    (run-whole-at t)
+    run-whole.Post
+    run-whole-Inv-loop2
+    run-whole-μ-loop2
+    run-whole-Inv-loop3
+    run-whole-μ-loop3
+    run-whole-Inv-loop
+    run-whole-μ-loop
 run-whole-mul-own t c = search needs
 
 -- src/whole.rt:30:15
@@ -97,11 +132,21 @@ run-whole-element-copy-out-own : (t : ℕ) → run-whole-lts.Need-element-copy-o
   at-end-reads.Learnt,
   step-change-reads.Asked,
   step-change-reads.Learnt,
+  child-record-reads.Asked,
+  child-record-reads.Learnt,
   run-whole-below t,
   run-whole.Post,
   end-change-reads.Asked,
   end-change-reads.Learnt,
-) (run-whole-at t) run-whole.Post run-whole-Inv-loop run-whole-μ-loop
+)
+    (run-whole-at t)
+    run-whole.Post
+    run-whole-Inv-loop2
+    run-whole-μ-loop2
+    run-whole-Inv-loop3
+    run-whole-μ-loop3
+    run-whole-Inv-loop
+    run-whole-μ-loop
 run-whole-element-copy-out-own t c = search needs
 
 -- src/whole.rt:31:68
@@ -116,11 +161,21 @@ run-whole-cast-row-size : (t : ℕ) → run-whole-lts.Need-cast-row-size (
   at-end-reads.Learnt,
   step-change-reads.Asked,
   step-change-reads.Learnt,
+  child-record-reads.Asked,
+  child-record-reads.Learnt,
   run-whole-below t,
   run-whole.Post,
   end-change-reads.Asked,
   end-change-reads.Learnt,
-) (run-whole-at t) run-whole.Post run-whole-Inv-loop run-whole-μ-loop
+)
+    (run-whole-at t)
+    run-whole.Post
+    run-whole-Inv-loop2
+    run-whole-μ-loop2
+    run-whole-Inv-loop3
+    run-whole-μ-loop3
+    run-whole-Inv-loop
+    run-whole-μ-loop
 run-whole-cast-row-size t c = search needs
 
 -- src/whole.rt:31:9
@@ -135,11 +190,21 @@ run-whole-row-size-requires : (t : ℕ) → run-whole-lts.Need-row-size-requires
   at-end-reads.Learnt,
   step-change-reads.Asked,
   step-change-reads.Learnt,
+  child-record-reads.Asked,
+  child-record-reads.Learnt,
   run-whole-below t,
   run-whole.Post,
   end-change-reads.Asked,
   end-change-reads.Learnt,
-) (run-whole-at t) run-whole.Post run-whole-Inv-loop run-whole-μ-loop
+)
+    (run-whole-at t)
+    run-whole.Post
+    run-whole-Inv-loop2
+    run-whole-μ-loop2
+    run-whole-Inv-loop3
+    run-whole-μ-loop3
+    run-whole-Inv-loop
+    run-whole-μ-loop
 run-whole-row-size-requires t c κs = search needs
 
 -- src/whole.rt:32:67
@@ -154,11 +219,21 @@ run-whole-cast-start-change : (t : ℕ) → run-whole-lts.Need-cast-start-change
   at-end-reads.Learnt,
   step-change-reads.Asked,
   step-change-reads.Learnt,
+  child-record-reads.Asked,
+  child-record-reads.Learnt,
   run-whole-below t,
   run-whole.Post,
   end-change-reads.Asked,
   end-change-reads.Learnt,
-) (run-whole-at t) run-whole.Post run-whole-Inv-loop run-whole-μ-loop
+)
+    (run-whole-at t)
+    run-whole.Post
+    run-whole-Inv-loop2
+    run-whole-μ-loop2
+    run-whole-Inv-loop3
+    run-whole-μ-loop3
+    run-whole-Inv-loop
+    run-whole-μ-loop
 run-whole-cast-start-change t c = search needs
 
 -- src/whole.rt:32:9
@@ -173,11 +248,21 @@ run-whole-start-change-requires : (t : ℕ) → run-whole-lts.Need-start-change-
   at-end-reads.Learnt,
   step-change-reads.Asked,
   step-change-reads.Learnt,
+  child-record-reads.Asked,
+  child-record-reads.Learnt,
   run-whole-below t,
   run-whole.Post,
   end-change-reads.Asked,
   end-change-reads.Learnt,
-) (run-whole-at t) run-whole.Post run-whole-Inv-loop run-whole-μ-loop
+)
+    (run-whole-at t)
+    run-whole.Post
+    run-whole-Inv-loop2
+    run-whole-μ-loop2
+    run-whole-Inv-loop3
+    run-whole-μ-loop3
+    run-whole-Inv-loop
+    run-whole-μ-loop
 run-whole-start-change-requires t c κs = search needs
 
 -- src/whole.rt:34:5
@@ -192,11 +277,21 @@ run-whole-mul-next : (t : ℕ) → run-whole-lts.Need-mul-next (
   at-end-reads.Learnt,
   step-change-reads.Asked,
   step-change-reads.Learnt,
+  child-record-reads.Asked,
+  child-record-reads.Learnt,
   run-whole-below t,
   run-whole.Post,
   end-change-reads.Asked,
   end-change-reads.Learnt,
-) (run-whole-at t) run-whole.Post run-whole-Inv-loop run-whole-μ-loop
+)
+    (run-whole-at t)
+    run-whole.Post
+    run-whole-Inv-loop2
+    run-whole-μ-loop2
+    run-whole-Inv-loop3
+    run-whole-μ-loop3
+    run-whole-Inv-loop
+    run-whole-μ-loop
 run-whole-mul-next t c = search needs
 
 -- src/whole.rt:34:5
@@ -211,11 +306,21 @@ run-whole-element-set-from-next : (t : ℕ) → run-whole-lts.Need-element-set-f
   at-end-reads.Learnt,
   step-change-reads.Asked,
   step-change-reads.Learnt,
+  child-record-reads.Asked,
+  child-record-reads.Learnt,
   run-whole-below t,
   run-whole.Post,
   end-change-reads.Asked,
   end-change-reads.Learnt,
-) (run-whole-at t) run-whole.Post run-whole-Inv-loop run-whole-μ-loop
+)
+    (run-whole-at t)
+    run-whole.Post
+    run-whole-Inv-loop2
+    run-whole-μ-loop2
+    run-whole-Inv-loop3
+    run-whole-μ-loop3
+    run-whole-Inv-loop
+    run-whole-μ-loop
 run-whole-element-set-from-next t c = search needs
 
 -- src/whole.rt:36:15
@@ -230,11 +335,21 @@ run-whole-wrapping-add-u32-requires : (t : ℕ) → run-whole-lts.Need-wrapping-
   at-end-reads.Learnt,
   step-change-reads.Asked,
   step-change-reads.Learnt,
+  child-record-reads.Asked,
+  child-record-reads.Learnt,
   run-whole-below t,
   run-whole.Post,
   end-change-reads.Asked,
   end-change-reads.Learnt,
-) (run-whole-at t) run-whole.Post run-whole-Inv-loop run-whole-μ-loop
+)
+    (run-whole-at t)
+    run-whole.Post
+    run-whole-Inv-loop2
+    run-whole-μ-loop2
+    run-whole-Inv-loop3
+    run-whole-μ-loop3
+    run-whole-Inv-loop
+    run-whole-μ-loop
 run-whole-wrapping-add-u32-requires t c κs = search needs
 
 -- src/whole.rt:37:16
@@ -249,11 +364,21 @@ run-whole-wrapping-add-u32-requires-2 : (t : ℕ) → run-whole-lts.Need-wrappin
   at-end-reads.Learnt,
   step-change-reads.Asked,
   step-change-reads.Learnt,
+  child-record-reads.Asked,
+  child-record-reads.Learnt,
   run-whole-below t,
   run-whole.Post,
   end-change-reads.Asked,
   end-change-reads.Learnt,
-) (run-whole-at t) run-whole.Post run-whole-Inv-loop run-whole-μ-loop
+)
+    (run-whole-at t)
+    run-whole.Post
+    run-whole-Inv-loop2
+    run-whole-μ-loop2
+    run-whole-Inv-loop3
+    run-whole-μ-loop3
+    run-whole-Inv-loop
+    run-whole-μ-loop
 run-whole-wrapping-add-u32-requires-2 t c κs = search needs
 
 -- src/whole.rt:39:21
@@ -268,11 +393,21 @@ run-whole-add-steps : (t : ℕ) → run-whole-lts.Need-add-steps (
   at-end-reads.Learnt,
   step-change-reads.Asked,
   step-change-reads.Learnt,
+  child-record-reads.Asked,
+  child-record-reads.Learnt,
   run-whole-below t,
   run-whole.Post,
   end-change-reads.Asked,
   end-change-reads.Learnt,
-) (run-whole-at t) run-whole.Post run-whole-Inv-loop run-whole-μ-loop
+)
+    (run-whole-at t)
+    run-whole.Post
+    run-whole-Inv-loop2
+    run-whole-μ-loop2
+    run-whole-Inv-loop3
+    run-whole-μ-loop3
+    run-whole-Inv-loop
+    run-whole-μ-loop
 run-whole-add-steps t c = omega (arith, c .before .before .before .before .before .before .row-size .ensures .1)
 
 -- src/whole.rt:40:5
@@ -287,11 +422,21 @@ run-whole-loop-holds : (t : ℕ) → run-whole-lts.Need-loop-holds (
   at-end-reads.Learnt,
   step-change-reads.Asked,
   step-change-reads.Learnt,
+  child-record-reads.Asked,
+  child-record-reads.Learnt,
   run-whole-below t,
   run-whole.Post,
   end-change-reads.Asked,
   end-change-reads.Learnt,
-) (run-whole-at t) run-whole.Post run-whole-Inv-loop run-whole-μ-loop
+)
+    (run-whole-at t)
+    run-whole.Post
+    run-whole-Inv-loop2
+    run-whole-μ-loop2
+    run-whole-Inv-loop3
+    run-whole-μ-loop3
+    run-whole-Inv-loop
+    run-whole-μ-loop
 run-whole-loop-holds t c =
     let a = c .before .before .before .before .before .before .before .before .before .before .before .before .args in
     steps-all (a .bodies) (a .task) _ _
@@ -308,11 +453,21 @@ run-whole-mul-own-2 : (t : ℕ) → run-whole-lts.Need-mul-own-2 (
   at-end-reads.Learnt,
   step-change-reads.Asked,
   step-change-reads.Learnt,
+  child-record-reads.Asked,
+  child-record-reads.Learnt,
   run-whole-below t,
   run-whole.Post,
   end-change-reads.Asked,
   end-change-reads.Learnt,
-) (run-whole-at t) run-whole.Post run-whole-Inv-loop run-whole-μ-loop
+)
+    (run-whole-at t)
+    run-whole.Post
+    run-whole-Inv-loop2
+    run-whole-μ-loop2
+    run-whole-Inv-loop3
+    run-whole-μ-loop3
+    run-whole-Inv-loop
+    run-whole-μ-loop
 run-whole-mul-own-2 t c = search needs
 
 -- src/whole.rt:41:19
@@ -327,11 +482,21 @@ run-whole-element-copy-out-own-2 : (t : ℕ) → run-whole-lts.Need-element-copy
   at-end-reads.Learnt,
   step-change-reads.Asked,
   step-change-reads.Learnt,
+  child-record-reads.Asked,
+  child-record-reads.Learnt,
   run-whole-below t,
   run-whole.Post,
   end-change-reads.Asked,
   end-change-reads.Learnt,
-) (run-whole-at t) run-whole.Post run-whole-Inv-loop run-whole-μ-loop
+)
+    (run-whole-at t)
+    run-whole.Post
+    run-whole-Inv-loop2
+    run-whole-μ-loop2
+    run-whole-Inv-loop3
+    run-whole-μ-loop3
+    run-whole-Inv-loop
+    run-whole-μ-loop
 run-whole-element-copy-out-own-2 t c = search needs
 
 -- src/whole.rt:42:72
@@ -346,11 +511,21 @@ run-whole-cast-row-size-2 : (t : ℕ) → run-whole-lts.Need-cast-row-size-2 (
   at-end-reads.Learnt,
   step-change-reads.Asked,
   step-change-reads.Learnt,
+  child-record-reads.Asked,
+  child-record-reads.Learnt,
   run-whole-below t,
   run-whole.Post,
   end-change-reads.Asked,
   end-change-reads.Learnt,
-) (run-whole-at t) run-whole.Post run-whole-Inv-loop run-whole-μ-loop
+)
+    (run-whole-at t)
+    run-whole.Post
+    run-whole-Inv-loop2
+    run-whole-μ-loop2
+    run-whole-Inv-loop3
+    run-whole-μ-loop3
+    run-whole-Inv-loop
+    run-whole-μ-loop
 run-whole-cast-row-size-2 t c = search needs
 
 -- src/whole.rt:42:13
@@ -365,11 +540,21 @@ run-whole-row-size-requires-2 : (t : ℕ) → run-whole-lts.Need-row-size-requir
   at-end-reads.Learnt,
   step-change-reads.Asked,
   step-change-reads.Learnt,
+  child-record-reads.Asked,
+  child-record-reads.Learnt,
   run-whole-below t,
   run-whole.Post,
   end-change-reads.Asked,
   end-change-reads.Learnt,
-) (run-whole-at t) run-whole.Post run-whole-Inv-loop run-whole-μ-loop
+)
+    (run-whole-at t)
+    run-whole.Post
+    run-whole-Inv-loop2
+    run-whole-μ-loop2
+    run-whole-Inv-loop3
+    run-whole-μ-loop3
+    run-whole-Inv-loop
+    run-whole-μ-loop
 run-whole-row-size-requires-2 t c κs = search needs
 
 -- src/whole.rt:43:12
@@ -384,11 +569,21 @@ run-whole-at-end-requires : (t : ℕ) → run-whole-lts.Need-at-end-requires (
   at-end-reads.Learnt,
   step-change-reads.Asked,
   step-change-reads.Learnt,
+  child-record-reads.Asked,
+  child-record-reads.Learnt,
   run-whole-below t,
   run-whole.Post,
   end-change-reads.Asked,
   end-change-reads.Learnt,
-) (run-whole-at t) run-whole.Post run-whole-Inv-loop run-whole-μ-loop
+)
+    (run-whole-at t)
+    run-whole.Post
+    run-whole-Inv-loop2
+    run-whole-μ-loop2
+    run-whole-Inv-loop3
+    run-whole-μ-loop3
+    run-whole-Inv-loop
+    run-whole-μ-loop
 run-whole-at-end-requires t c κs = search needs
 
 -- src/whole.rt:40:5
@@ -403,11 +598,21 @@ run-whole-loop-less : (t : ℕ) → run-whole-lts.Need-loop-less (
   at-end-reads.Learnt,
   step-change-reads.Asked,
   step-change-reads.Learnt,
+  child-record-reads.Asked,
+  child-record-reads.Learnt,
   run-whole-below t,
   run-whole.Post,
   end-change-reads.Asked,
   end-change-reads.Learnt,
-) (run-whole-at t) run-whole.Post run-whole-Inv-loop run-whole-μ-loop
+)
+    (run-whole-at t)
+    run-whole.Post
+    run-whole-Inv-loop2
+    run-whole-μ-loop2
+    run-whole-Inv-loop3
+    run-whole-μ-loop3
+    run-whole-Inv-loop
+    run-whole-μ-loop
 run-whole-loop-less t c = omega (arith, c .before .before .before .before .before .before .before .loop-test .taken)
 
 -- src/whole.rt:40:5
@@ -422,11 +627,21 @@ run-whole-loop-again : (t : ℕ) → run-whole-lts.Need-loop-again (
   at-end-reads.Learnt,
   step-change-reads.Asked,
   step-change-reads.Learnt,
+  child-record-reads.Asked,
+  child-record-reads.Learnt,
   run-whole-below t,
   run-whole.Post,
   end-change-reads.Asked,
   end-change-reads.Learnt,
-) (run-whole-at t) run-whole.Post run-whole-Inv-loop run-whole-μ-loop
+)
+    (run-whole-at t)
+    run-whole.Post
+    run-whole-Inv-loop2
+    run-whole-μ-loop2
+    run-whole-Inv-loop3
+    run-whole-μ-loop3
+    run-whole-Inv-loop
+    run-whole-μ-loop
 run-whole-loop-again t c =
     let a = c .before .before .before .before .before .before .before .before .before .before .before .before .before .before .before .before .before .before .before .before .before .args in
     let sizes = length-lowered (λ (v : ℕ). v) (a .t1 .sizes) 32 (c .before .before .before .before .before .before .before .before .before .before .before .before .before .before .before .before .before .before .before .before .before .good .0 .1 .1 .1 .1 .1 .1 .1 .0 .1 .0 .1) in
@@ -460,11 +675,21 @@ run-whole-cast-step-change : (t : ℕ) → run-whole-lts.Need-cast-step-change (
   at-end-reads.Learnt,
   step-change-reads.Asked,
   step-change-reads.Learnt,
+  child-record-reads.Asked,
+  child-record-reads.Learnt,
   run-whole-below t,
   run-whole.Post,
   end-change-reads.Asked,
   end-change-reads.Learnt,
-) (run-whole-at t) run-whole.Post run-whole-Inv-loop run-whole-μ-loop
+)
+    (run-whole-at t)
+    run-whole.Post
+    run-whole-Inv-loop2
+    run-whole-μ-loop2
+    run-whole-Inv-loop3
+    run-whole-μ-loop3
+    run-whole-Inv-loop
+    run-whole-μ-loop
 run-whole-cast-step-change t c = omega (arith, c .before .before .before .before .before .before .before .before .before .before .before .before .before .before .before .before .before .before .before .before .before .before .before .before .pre .1)
 
 -- src/whole.rt:47:13
@@ -479,11 +704,21 @@ run-whole-step-change-requires : (t : ℕ) → run-whole-lts.Need-step-change-re
   at-end-reads.Learnt,
   step-change-reads.Asked,
   step-change-reads.Learnt,
+  child-record-reads.Asked,
+  child-record-reads.Learnt,
   run-whole-below t,
   run-whole.Post,
   end-change-reads.Asked,
   end-change-reads.Learnt,
-) (run-whole-at t) run-whole.Post run-whole-Inv-loop run-whole-μ-loop
+)
+    (run-whole-at t)
+    run-whole.Post
+    run-whole-Inv-loop2
+    run-whole-μ-loop2
+    run-whole-Inv-loop3
+    run-whole-μ-loop3
+    run-whole-Inv-loop
+    run-whole-μ-loop
 run-whole-step-change-requires t c κs = search needs
 
 -- src/whole.rt:49:9
@@ -498,11 +733,21 @@ run-whole-mul-next-2 : (t : ℕ) → run-whole-lts.Need-mul-next-2 (
   at-end-reads.Learnt,
   step-change-reads.Asked,
   step-change-reads.Learnt,
+  child-record-reads.Asked,
+  child-record-reads.Learnt,
   run-whole-below t,
   run-whole.Post,
   end-change-reads.Asked,
   end-change-reads.Learnt,
-) (run-whole-at t) run-whole.Post run-whole-Inv-loop run-whole-μ-loop
+)
+    (run-whole-at t)
+    run-whole.Post
+    run-whole-Inv-loop2
+    run-whole-μ-loop2
+    run-whole-Inv-loop3
+    run-whole-μ-loop3
+    run-whole-Inv-loop
+    run-whole-μ-loop
 run-whole-mul-next-2 t c = omega (arith, c .before .before .before .before .before .before .before .before .before .before .before .before .before .before .before .before .before .before .before .before .before .before .before .before .before .before .pre .1)
 
 -- src/whole.rt:49:9
@@ -517,11 +762,21 @@ run-whole-element-set-from-next-2 : (t : ℕ) → run-whole-lts.Need-element-set
   at-end-reads.Learnt,
   step-change-reads.Asked,
   step-change-reads.Learnt,
+  child-record-reads.Asked,
+  child-record-reads.Learnt,
   run-whole-below t,
   run-whole.Post,
   end-change-reads.Asked,
   end-change-reads.Learnt,
-) (run-whole-at t) run-whole.Post run-whole-Inv-loop run-whole-μ-loop
+)
+    (run-whole-at t)
+    run-whole.Post
+    run-whole-Inv-loop2
+    run-whole-μ-loop2
+    run-whole-Inv-loop3
+    run-whole-μ-loop3
+    run-whole-Inv-loop
+    run-whole-μ-loop
 run-whole-element-set-from-next-2 t c = omega (arith, c .before .before .before .before .before .before .before .before .before .before .before .before .before .before .before .before .before .before .before .before .before .before .before .before .before .before .pre .1)
 
 -- src/whole.rt:51:19
@@ -536,11 +791,21 @@ run-whole-wrapping-add-u32-requires-3 : (t : ℕ) → run-whole-lts.Need-wrappin
   at-end-reads.Learnt,
   step-change-reads.Asked,
   step-change-reads.Learnt,
+  child-record-reads.Asked,
+  child-record-reads.Learnt,
   run-whole-below t,
   run-whole.Post,
   end-change-reads.Asked,
   end-change-reads.Learnt,
-) (run-whole-at t) run-whole.Post run-whole-Inv-loop run-whole-μ-loop
+)
+    (run-whole-at t)
+    run-whole.Post
+    run-whole-Inv-loop2
+    run-whole-μ-loop2
+    run-whole-Inv-loop3
+    run-whole-μ-loop3
+    run-whole-Inv-loop
+    run-whole-μ-loop
 run-whole-wrapping-add-u32-requires-3 t c κs = search needs
 
 -- src/whole.rt:52:20
@@ -555,11 +820,21 @@ run-whole-wrapping-add-u32-requires-4 : (t : ℕ) → run-whole-lts.Need-wrappin
   at-end-reads.Learnt,
   step-change-reads.Asked,
   step-change-reads.Learnt,
+  child-record-reads.Asked,
+  child-record-reads.Learnt,
   run-whole-below t,
   run-whole.Post,
   end-change-reads.Asked,
   end-change-reads.Learnt,
-) (run-whole-at t) run-whole.Post run-whole-Inv-loop run-whole-μ-loop
+)
+    (run-whole-at t)
+    run-whole.Post
+    run-whole-Inv-loop2
+    run-whole-μ-loop2
+    run-whole-Inv-loop3
+    run-whole-μ-loop3
+    run-whole-Inv-loop
+    run-whole-μ-loop
 run-whole-wrapping-add-u32-requires-4 t c κs = search needs
 
 -- src/whole.rt:53:9
@@ -574,12 +849,347 @@ run-whole-sub-steps : (t : ℕ) → run-whole-lts.Need-sub-steps (
   at-end-reads.Learnt,
   step-change-reads.Asked,
   step-change-reads.Learnt,
+  child-record-reads.Asked,
+  child-record-reads.Learnt,
   run-whole-below t,
   run-whole.Post,
   end-change-reads.Asked,
   end-change-reads.Learnt,
-) (run-whole-at t) run-whole.Post run-whole-Inv-loop run-whole-μ-loop
+)
+    (run-whole-at t)
+    run-whole.Post
+    run-whole-Inv-loop2
+    run-whole-μ-loop2
+    run-whole-Inv-loop3
+    run-whole-μ-loop3
+    run-whole-Inv-loop
+    run-whole-μ-loop
 run-whole-sub-steps t c = omega arith
+
+-- src/whole.rt:60:9
+run-whole-loop2-holds : (t : ℕ) → run-whole-lts.Need-loop2-holds (
+  row-size-reads.Asked,
+  row-size-reads.Learnt,
+  start-change-reads.Asked,
+  start-change-reads.Learnt,
+  wrapping-add-u32-reads.Asked,
+  wrapping-add-u32-reads.Learnt,
+  at-end-reads.Asked,
+  at-end-reads.Learnt,
+  step-change-reads.Asked,
+  step-change-reads.Learnt,
+  child-record-reads.Asked,
+  child-record-reads.Learnt,
+  run-whole-below t,
+  run-whole.Post,
+  end-change-reads.Asked,
+  end-change-reads.Learnt,
+)
+    (run-whole-at t)
+    run-whole.Post
+    run-whole-Inv-loop2
+    run-whole-μ-loop2
+    run-whole-Inv-loop3
+    run-whole-μ-loop3
+    run-whole-Inv-loop
+    run-whole-μ-loop
+run-whole-loop2-holds t c = search needs
+
+-- src/whole.rt:61:13
+run-whole-sub-i : (t : ℕ) → run-whole-lts.Need-sub-i (
+  row-size-reads.Asked,
+  row-size-reads.Learnt,
+  start-change-reads.Asked,
+  start-change-reads.Learnt,
+  wrapping-add-u32-reads.Asked,
+  wrapping-add-u32-reads.Learnt,
+  at-end-reads.Asked,
+  at-end-reads.Learnt,
+  step-change-reads.Asked,
+  step-change-reads.Learnt,
+  child-record-reads.Asked,
+  child-record-reads.Learnt,
+  run-whole-below t,
+  run-whole.Post,
+  end-change-reads.Asked,
+  end-change-reads.Learnt,
+)
+    (run-whole-at t)
+    run-whole.Post
+    run-whole-Inv-loop2
+    run-whole-μ-loop2
+    run-whole-Inv-loop3
+    run-whole-μ-loop3
+    run-whole-Inv-loop
+    run-whole-μ-loop
+run-whole-sub-i t c = search needs
+
+-- src/whole.rt:62:52
+run-whole-cast-child-record : (t : ℕ) → run-whole-lts.Need-cast-child-record (
+  row-size-reads.Asked,
+  row-size-reads.Learnt,
+  start-change-reads.Asked,
+  start-change-reads.Learnt,
+  wrapping-add-u32-reads.Asked,
+  wrapping-add-u32-reads.Learnt,
+  at-end-reads.Asked,
+  at-end-reads.Learnt,
+  step-change-reads.Asked,
+  step-change-reads.Learnt,
+  child-record-reads.Asked,
+  child-record-reads.Learnt,
+  run-whole-below t,
+  run-whole.Post,
+  end-change-reads.Asked,
+  end-change-reads.Learnt,
+)
+    (run-whole-at t)
+    run-whole.Post
+    run-whole-Inv-loop2
+    run-whole-μ-loop2
+    run-whole-Inv-loop3
+    run-whole-μ-loop3
+    run-whole-Inv-loop
+    run-whole-μ-loop
+run-whole-cast-child-record t c = search needs
+
+-- src/whole.rt:62:17
+run-whole-child-record-requires : (t : ℕ) → run-whole-lts.Need-child-record-requires (
+  row-size-reads.Asked,
+  row-size-reads.Learnt,
+  start-change-reads.Asked,
+  start-change-reads.Learnt,
+  wrapping-add-u32-reads.Asked,
+  wrapping-add-u32-reads.Learnt,
+  at-end-reads.Asked,
+  at-end-reads.Learnt,
+  step-change-reads.Asked,
+  step-change-reads.Learnt,
+  child-record-reads.Asked,
+  child-record-reads.Learnt,
+  run-whole-below t,
+  run-whole.Post,
+  end-change-reads.Asked,
+  end-change-reads.Learnt,
+)
+    (run-whole-at t)
+    run-whole.Post
+    run-whole-Inv-loop2
+    run-whole-μ-loop2
+    run-whole-Inv-loop3
+    run-whole-μ-loop3
+    run-whole-Inv-loop
+    run-whole-μ-loop
+run-whole-child-record-requires t c κs = search needs
+
+-- src/whole.rt:63:31
+run-whole-mul-born : (t : ℕ) → run-whole-lts.Need-mul-born (
+  row-size-reads.Asked,
+  row-size-reads.Learnt,
+  start-change-reads.Asked,
+  start-change-reads.Learnt,
+  wrapping-add-u32-reads.Asked,
+  wrapping-add-u32-reads.Learnt,
+  at-end-reads.Asked,
+  at-end-reads.Learnt,
+  step-change-reads.Asked,
+  step-change-reads.Learnt,
+  child-record-reads.Asked,
+  child-record-reads.Learnt,
+  run-whole-below t,
+  run-whole.Post,
+  end-change-reads.Asked,
+  end-change-reads.Learnt,
+)
+    (run-whole-at t)
+    run-whole.Post
+    run-whole-Inv-loop2
+    run-whole-μ-loop2
+    run-whole-Inv-loop3
+    run-whole-μ-loop3
+    run-whole-Inv-loop
+    run-whole-μ-loop
+run-whole-mul-born t c = omega (arith, c .before .before .before .before .before .before .before .step-change .ensures .0 .near (c .before .before .loop2 .i - 1) (omega (arith, c .before .loop2-test .taken, c .before .before .loop2 .inv .children-left .within)))
+
+-- src/whole.rt:63:23
+run-whole-add-born : (t : ℕ) → run-whole-lts.Need-add-born (
+  row-size-reads.Asked,
+  row-size-reads.Learnt,
+  start-change-reads.Asked,
+  start-change-reads.Learnt,
+  wrapping-add-u32-reads.Asked,
+  wrapping-add-u32-reads.Learnt,
+  at-end-reads.Asked,
+  at-end-reads.Learnt,
+  step-change-reads.Asked,
+  step-change-reads.Learnt,
+  child-record-reads.Asked,
+  child-record-reads.Learnt,
+  run-whole-below t,
+  run-whole.Post,
+  end-change-reads.Asked,
+  end-change-reads.Learnt,
+)
+    (run-whole-at t)
+    run-whole.Post
+    run-whole-Inv-loop2
+    run-whole-μ-loop2
+    run-whole-Inv-loop3
+    run-whole-μ-loop3
+    run-whole-Inv-loop
+    run-whole-μ-loop
+run-whole-add-born t c = omega (arith, c .before .before .before .before .before .before .before .step-change .ensures .0 .near (c .before .before .loop2 .i - 1) (omega (arith, c .before .loop2-test .taken, c .before .before .loop2 .inv .children-left .within)))
+
+-- src/whole.rt:63:13
+run-whole-mul-born-2 : (t : ℕ) → run-whole-lts.Need-mul-born-2 (
+  row-size-reads.Asked,
+  row-size-reads.Learnt,
+  start-change-reads.Asked,
+  start-change-reads.Learnt,
+  wrapping-add-u32-reads.Asked,
+  wrapping-add-u32-reads.Learnt,
+  at-end-reads.Asked,
+  at-end-reads.Learnt,
+  step-change-reads.Asked,
+  step-change-reads.Learnt,
+  child-record-reads.Asked,
+  child-record-reads.Learnt,
+  run-whole-below t,
+  run-whole.Post,
+  end-change-reads.Asked,
+  end-change-reads.Learnt,
+)
+    (run-whole-at t)
+    run-whole.Post
+    run-whole-Inv-loop2
+    run-whole-μ-loop2
+    run-whole-Inv-loop3
+    run-whole-μ-loop3
+    run-whole-Inv-loop
+    run-whole-μ-loop
+run-whole-mul-born-2 t c = omega (arith, c .before .before .before .before .before .before .before .step-change .ensures .0 .near (c .before .before .loop2 .i - 1) (omega (arith, c .before .loop2-test .taken, c .before .before .loop2 .inv .children-left .within)))
+
+-- src/whole.rt:63:13
+run-whole-element-set-from-born : (t : ℕ) → run-whole-lts.Need-element-set-from-born (
+  row-size-reads.Asked,
+  row-size-reads.Learnt,
+  start-change-reads.Asked,
+  start-change-reads.Learnt,
+  wrapping-add-u32-reads.Asked,
+  wrapping-add-u32-reads.Learnt,
+  at-end-reads.Asked,
+  at-end-reads.Learnt,
+  step-change-reads.Asked,
+  step-change-reads.Learnt,
+  child-record-reads.Asked,
+  child-record-reads.Learnt,
+  run-whole-below t,
+  run-whole.Post,
+  end-change-reads.Asked,
+  end-change-reads.Learnt,
+)
+    (run-whole-at t)
+    run-whole.Post
+    run-whole-Inv-loop2
+    run-whole-μ-loop2
+    run-whole-Inv-loop3
+    run-whole-μ-loop3
+    run-whole-Inv-loop
+    run-whole-μ-loop
+run-whole-element-set-from-born t c = c .before .before .before .before .before .before .before .step-change .ensures .0 .near (c .before .before .loop2 .i - 1) (omega (arith, c .before .loop2-test .taken, c .before .before .loop2 .inv .children-left .within))
+
+-- src/whole.rt:60:9
+run-whole-loop2-less : (t : ℕ) → run-whole-lts.Need-loop2-less (
+  row-size-reads.Asked,
+  row-size-reads.Learnt,
+  start-change-reads.Asked,
+  start-change-reads.Learnt,
+  wrapping-add-u32-reads.Asked,
+  wrapping-add-u32-reads.Learnt,
+  at-end-reads.Asked,
+  at-end-reads.Learnt,
+  step-change-reads.Asked,
+  step-change-reads.Learnt,
+  child-record-reads.Asked,
+  child-record-reads.Learnt,
+  run-whole-below t,
+  run-whole.Post,
+  end-change-reads.Asked,
+  end-change-reads.Learnt,
+)
+    (run-whole-at t)
+    run-whole.Post
+    run-whole-Inv-loop2
+    run-whole-μ-loop2
+    run-whole-Inv-loop3
+    run-whole-μ-loop3
+    run-whole-Inv-loop
+    run-whole-μ-loop
+run-whole-loop2-less t c = search needs
+
+-- src/whole.rt:60:9
+run-whole-loop2-again : (t : ℕ) → run-whole-lts.Need-loop2-again (
+  row-size-reads.Asked,
+  row-size-reads.Learnt,
+  start-change-reads.Asked,
+  start-change-reads.Learnt,
+  wrapping-add-u32-reads.Asked,
+  wrapping-add-u32-reads.Learnt,
+  at-end-reads.Asked,
+  at-end-reads.Learnt,
+  step-change-reads.Asked,
+  step-change-reads.Learnt,
+  child-record-reads.Asked,
+  child-record-reads.Learnt,
+  run-whole-below t,
+  run-whole.Post,
+  end-change-reads.Asked,
+  end-change-reads.Learnt,
+)
+    (run-whole-at t)
+    run-whole.Post
+    run-whole-Inv-loop2
+    run-whole-μ-loop2
+    run-whole-Inv-loop3
+    run-whole-μ-loop3
+    run-whole-Inv-loop
+    run-whole-μ-loop
+run-whole-loop2-again t c =
+    let change = c .before .before .before .before .before .before .before .step-change .result in
+    let l = c .before .before .loop2 in
+    writing-one (change .child) (change .apart) (change .made) (change .children) _ (l .i) (l .p) (c .before .loop2-test .taken) (l .inv)
+    (c .child-record .result) (c .child-record .ensures)
+
+-- src/whole.rt:67:9
+run-whole-loop3-holds : (t : ℕ) → run-whole-lts.Need-loop3-holds (
+  row-size-reads.Asked,
+  row-size-reads.Learnt,
+  start-change-reads.Asked,
+  start-change-reads.Learnt,
+  wrapping-add-u32-reads.Asked,
+  wrapping-add-u32-reads.Learnt,
+  at-end-reads.Asked,
+  at-end-reads.Learnt,
+  step-change-reads.Asked,
+  step-change-reads.Learnt,
+  child-record-reads.Asked,
+  child-record-reads.Learnt,
+  run-whole-below t,
+  run-whole.Post,
+  end-change-reads.Asked,
+  end-change-reads.Learnt,
+)
+    (run-whole-at t)
+    run-whole.Post
+    run-whole-Inv-loop2
+    run-whole-μ-loop2
+    run-whole-Inv-loop3
+    run-whole-μ-loop3
+    run-whole-Inv-loop
+    run-whole-μ-loop
+run-whole-loop3-holds t c =
+    let change = c .before .before .before .before .before .before .step-change .result in
+    each-all (c .before .before .before .before .before .before .before .before .before .before .before .before .before .before .before .before .before .before .before .before .before .before .before .before .before .before .before .before .before .before .before .args .bodies) (change .child) (change .apart) (change .children) _
 
 -- src/whole.rt:40:5
 run-whole-loop-less-2 : (t : ℕ) → run-whole-lts.Need-loop-less-2 (
@@ -593,12 +1203,22 @@ run-whole-loop-less-2 : (t : ℕ) → run-whole-lts.Need-loop-less-2 (
   at-end-reads.Learnt,
   step-change-reads.Asked,
   step-change-reads.Learnt,
+  child-record-reads.Asked,
+  child-record-reads.Learnt,
   run-whole-below t,
   run-whole.Post,
   end-change-reads.Asked,
   end-change-reads.Learnt,
-) (run-whole-at t) run-whole.Post run-whole-Inv-loop run-whole-μ-loop
-run-whole-loop-less-2 t c = omega (arith, c .before .before .before .before .before .before .before .before .before .before .before .before .before .before .before .loop-test .taken)
+)
+    (run-whole-at t)
+    run-whole.Post
+    run-whole-Inv-loop2
+    run-whole-μ-loop2
+    run-whole-Inv-loop3
+    run-whole-μ-loop3
+    run-whole-Inv-loop
+    run-whole-μ-loop
+run-whole-loop-less-2 t c = omega (arith, c .before .before .before .before .before .before .before .before .before .before .before .before .before .before .before .before .before .before .before .loop-test .taken)
 
 -- src/whole.rt:40:5
 run-whole-loop-again-2 : (t : ℕ) → run-whole-lts.Need-loop-again-2 (
@@ -612,43 +1232,55 @@ run-whole-loop-again-2 : (t : ℕ) → run-whole-lts.Need-loop-again-2 (
   at-end-reads.Learnt,
   step-change-reads.Asked,
   step-change-reads.Learnt,
+  child-record-reads.Asked,
+  child-record-reads.Learnt,
   run-whole-below t,
   run-whole.Post,
   end-change-reads.Asked,
   end-change-reads.Learnt,
-) (run-whole-at t) run-whole.Post run-whole-Inv-loop run-whole-μ-loop
+)
+    (run-whole-at t)
+    run-whole.Post
+    run-whole-Inv-loop2
+    run-whole-μ-loop2
+    run-whole-Inv-loop3
+    run-whole-μ-loop3
+    run-whole-Inv-loop
+    run-whole-μ-loop
 run-whole-loop-again-2 t c =
-    let a = c .before .before .before .before .before .before .before .before .before .before .before .before .before .before .before .before .before .before .before .before .before .before .before .before .before .before .before .before .before .args in
-    let sizes = length-lowered (λ (v : ℕ). v) (a .t1 .sizes) 32 (c .before .before .before .before .before .before .before .before .before .before .before .before .before .before .before .before .before .before .before .before .before .before .before .before .before .before .before .before .before .good .0 .1 .1 .1 .1 .1 .1 .1 .0 .1 .0 .1) in
-    let cells = length-lowered (the-cell .to) (a .t1 .cells) 1024 (c .before .before .before .before .before .before .before .before .before .before .before .before .before .before .before .before .before .before .before .before .before .before .before .before .before .before .before .before .before .good .0 .1 .1 .1 .1 .1 .1 .1 .1 .0 .1 .0 .1) in
-    let run = joined (a .t1) (a .progress) (now (a .memory)) (now (a .modes)) (now (a .order)) in
-    let size = c .before .before .before .before .before .before .before .before .before .before .before .before .before .before .before .before .before .before .before .before .before .before .before .row-size in
-    let limit = size .result + 1 in
-    let room = enough-steps run (a .task) (c .before .before .before .before .before .before .before .before .before .before .before .before .before .before .before .before .before .before .before .before .before .before .before .before .before .before .before .before .before .pre .1) (size .result) (size .ensures .0 ∙ body-size-is (a .t1) (record-of run (a .task) .body) sizes cells) in
-    let change = c .before .before .before .before .before .before .before .before .before .before .before .before .before .before .before .before .before .before .before .before .start-change in
-    let calls = c .before .before .before .before .before .before .before .before .before .before .before .before .before .before .before .before .before .before .wrapping-add-u32 in
-    let weight = c .before .before .before .before .before .before .before .before .before .before .before .before .before .before .before .before .before .wrapping-add-u322 in
+    let a = c .before .before .before .before .before .before .before .before .before .before .before .before .before .before .before .before .before .before .before .before .before .before .before .before .before .before .before .before .before .before .before .before .before .args in
+    let sizes = length-lowered (λ (v : ℕ). v) (a .t1 .sizes) 32 (c .before .before .before .before .before .before .before .before .before .before .before .before .before .before .before .before .before .before .before .before .before .before .before .before .before .before .before .before .before .before .before .before .before .good .0 .1 .1 .1 .1 .1 .1 .1 .0 .1 .0 .1) in
+    let cells = length-lowered (the-cell .to) (a .t1 .cells) 1024 (c .before .before .before .before .before .before .before .before .before .before .before .before .before .before .before .before .before .before .before .before .before .before .before .before .before .before .before .before .before .before .before .before .before .good .0 .1 .1 .1 .1 .1 .1 .1 .1 .0 .1 .0 .1) in
+    let limit = c .before .before .before .before .before .before .before .before .before .before .before .before .before .before .before .before .before .before .before .before .before .before .before .before .before .before .before .row-size .result + 1 in
+    let change = c .before .before .before .before .before .before .before .before .before .before .before .before .before .before .before .before .before .before .before .before .before .before .before .before .start-change in
+    let calls = c .before .before .before .before .before .before .before .before .before .before .before .before .before .before .before .before .before .before .before .before .before .before .wrapping-add-u32 in
+    let weight = c .before .before .before .before .before .before .before .before .before .before .before .before .before .before .before .before .before .before .before .before .before .wrapping-add-u322 in
     let from = joined (a .t1) (onward (a .progress) (a .task) (change .result) (calls .result) (weight .result)) (now (a .memory)) (now (a .modes)) (now (a .order)) in
-    let begun = start-joined (a .t1) (a .progress) (now (a .memory)) (now (a .modes)) (now (a .order)) (a .task) (change .result) (calls .result) (weight .result) (calls .ensures) (weight .ensures) (change .ensures) in
-    let l = c .before .before .before .before .before .before .before .before .before .before .before .before .before .before .before .before .loop in
+    let l = c .before .before .before .before .before .before .before .before .before .before .before .before .before .before .before .before .before .before .before .before .loop in
     let r = joined (a .t1) (l .p) (l .memory) (l .modes) (l .order) in
-    let size2 = c .before .before .before .before .before .before .before .before .before .before .row-size2 in
-    let at = c .before .before .before .before .before .before .before .before .before .at-end in
+    let size2 = c .before .before .before .before .before .before .before .before .before .before .before .before .before .before .row-size2 in
+    let at = c .before .before .before .before .before .before .before .before .before .before .before .before .before .at-end in
     let there : SoundRun r → at .result ≡ at-end (context-of r) (task-of (model r) (a .task)) =
-    λ s. at .ensures ∙ ends r (a .task) (size2 .result) (record-of r (a .task)) (c .before .before .before .before .before .before .before .before .before .before .before .before .before .before .before .before .before .before .before .before .before .before .before .before .before .before .before .before .before .pre .1) refl (size2 .ensures .0 ∙ body-size-is (a .t1) (record-of r (a .task) .body) sizes cells) s in
-    let stepping = c .before .before .before .before .step-change in
-    let calls2 = c .before .before .wrapping-add-u323 in
-    let weight2 = c .before .wrapping-add-u324 in
+    λ s. at .ensures ∙ ends r (a .task) (size2 .result) (record-of r (a .task)) (c .before .before .before .before .before .before .before .before .before .before .before .before .before .before .before .before .before .before .before .before .before .before .before .before .before .before .before .before .before .before .before .before .before .pre .1) refl (size2 .ensures .0 ∙ body-size-is (a .t1) (record-of r (a .task) .body) sizes cells) s in
+    let stepping = c .before .before .before .before .before .before .before .before .step-change in
+    let step = stepping .result in
+    let calls2 = c .before .before .before .before .before .before .wrapping-add-u323 in
+    let weight2 = c .before .before .before .before .before .wrapping-add-u324 in
     let m = stepping .last .1 .0 in
     let ms = stepping .last .1 .1 .0 in
     let o = stepping .last .1 .1 .1 .0 in
-    let p = onward (l .p) (a .task) (stepping .result) (calls2 .result) (weight2 .result) in
-    turn-none (a .bodies) (a .task) limit from (l .steps) r (joined (a .t1) p m ms o) (l .inv) (c .before .before .before .before .before .before .before .before .before .before .before .before .before .before .before .loop-test .taken) (at .result) there (c .before .before .before .before .before .before .before .before .if2 .left)
-    (step-joined (a .t1) (l .p) (l .memory) (l .modes) (l .order) (a .task) (stepping .result) (calls2 .result) (weight2 .result) (calls2 .ensures) (weight2 .ensures) m ms o (stepping .ensures) (c .if3 .taken)) (stepping .result .child)
-    (makes-joined (a .t1) (l .p) (l .memory) (l .modes) (l .order) (a .task) (stepping .result) (calls2 .result) (weight2 .result) (calls2 .ensures) (weight2 .ensures) m ms o (stepping .ensures)) (c .if3 .taken)
+    let p = onward (l .p) (a .task) step (calls2 .result) (weight2 .result) in
+    let l2 = c .before .before .before .loop2 in
+    let l3 = c .before .loop3 in
+    turn-taken (a .bodies) (a .task) limit from (l .steps) r (joined (a .t1) (l2 .p) m ms o) (l .inv) (c .before .before .before .before .before .before .before .before .before .before .before .before .before .before .before .before .before .before .before .loop-test .taken) (at .result) there (c .before .before .before .before .before .before .before .before .before .before .before .before .if2 .left)
+    (step-joined (a .t1) (l .p) (l .memory) (l .modes) (l .order) (a .task) step (calls2 .result) (weight2 .result) (calls2 .ensures) (weight2 .ensures) m ms o (stepping .ensures) (l2 .p)
+    (writing-done (step .child) (step .apart) (step .made) (step .children) p (l2 .i) (l2 .p) (c .before .before .loop2-test .left) (l2 .inv)))
+    (step .child) (step .apart) (step .children)
+    (makes-joined (a .t1) (l .p) (l .memory) (l .modes) (l .order) (a .task) step (calls2 .result) (weight2 .result) (calls2 .ensures) (weight2 .ensures) m ms o (stepping .ensures))
+    (l3 .j) (joined (a .t1) (l3 .p) (l3 .memory) (l3 .modes) (l3 .order)) (c .loop3-test .left) (l3 .inv)
 
--- src/whole.rt:59:9
-run-whole-mul-made : (t : ℕ) → run-whole-lts.Need-mul-made (
+-- src/whole.rt:74:25
+run-whole-mul-run-whole : (t : ℕ) → run-whole-lts.Need-mul-run-whole (
   row-size-reads.Asked,
   row-size-reads.Learnt,
   start-change-reads.Asked,
@@ -659,15 +1291,25 @@ run-whole-mul-made : (t : ℕ) → run-whole-lts.Need-mul-made (
   at-end-reads.Learnt,
   step-change-reads.Asked,
   step-change-reads.Learnt,
+  child-record-reads.Asked,
+  child-record-reads.Learnt,
   run-whole-below t,
   run-whole.Post,
   end-change-reads.Asked,
   end-change-reads.Learnt,
-) (run-whole-at t) run-whole.Post run-whole-Inv-loop run-whole-μ-loop
-run-whole-mul-made t c = search needs
+)
+    (run-whole-at t)
+    run-whole.Post
+    run-whole-Inv-loop2
+    run-whole-μ-loop2
+    run-whole-Inv-loop3
+    run-whole-μ-loop3
+    run-whole-Inv-loop
+    run-whole-μ-loop
+run-whole-mul-run-whole t c = omega (arith, c .before .before .before .before .before .before .before .before .before .before .before .step-change .ensures .0 .near (c .before .before .before .before .loop3 .j) (c .before .before .before .loop3-test .taken))
 
--- src/whole.rt:59:9
-run-whole-element-set-from-made : (t : ℕ) → run-whole-lts.Need-element-set-from-made (
+-- src/whole.rt:74:17
+run-whole-add-run-whole : (t : ℕ) → run-whole-lts.Need-add-run-whole (
   row-size-reads.Asked,
   row-size-reads.Learnt,
   start-change-reads.Asked,
@@ -678,14 +1320,24 @@ run-whole-element-set-from-made : (t : ℕ) → run-whole-lts.Need-element-set-f
   at-end-reads.Learnt,
   step-change-reads.Asked,
   step-change-reads.Learnt,
+  child-record-reads.Asked,
+  child-record-reads.Learnt,
   run-whole-below t,
   run-whole.Post,
   end-change-reads.Asked,
   end-change-reads.Learnt,
-) (run-whole-at t) run-whole.Post run-whole-Inv-loop run-whole-μ-loop
-run-whole-element-set-from-made t c = search needs
+)
+    (run-whole-at t)
+    run-whole.Post
+    run-whole-Inv-loop2
+    run-whole-μ-loop2
+    run-whole-Inv-loop3
+    run-whole-μ-loop3
+    run-whole-Inv-loop
+    run-whole-μ-loop
+run-whole-add-run-whole t c = omega (arith, c .before .before .before .before .before .before .before .before .before .before .before .step-change .ensures .0 .near (c .before .before .before .before .loop3 .j) (c .before .before .before .loop3-test .taken))
 
--- src/whole.rt:60:63
+-- src/whole.rt:75:17
 run-whole-sub-run-whole : (t : ℕ) → run-whole-lts.Need-sub-run-whole (
   row-size-reads.Asked,
   row-size-reads.Learnt,
@@ -697,14 +1349,24 @@ run-whole-sub-run-whole : (t : ℕ) → run-whole-lts.Need-sub-run-whole (
   at-end-reads.Learnt,
   step-change-reads.Asked,
   step-change-reads.Learnt,
+  child-record-reads.Asked,
+  child-record-reads.Learnt,
   run-whole-below t,
   run-whole.Post,
   end-change-reads.Asked,
   end-change-reads.Learnt,
-) (run-whole-at t) run-whole.Post run-whole-Inv-loop run-whole-μ-loop
-run-whole-sub-run-whole t c = pos-of-ne-zero (c .before .before .before .before .before .before .before .before .before .before .before .before .before .before .before .before .before .before .before .before .before .before .before .before .before .before .before .before .before .before .before .before .if1 .left)
+)
+    (run-whole-at t)
+    run-whole.Post
+    run-whole-Inv-loop2
+    run-whole-μ-loop2
+    run-whole-Inv-loop3
+    run-whole-μ-loop3
+    run-whole-Inv-loop
+    run-whole-μ-loop
+run-whole-sub-run-whole t c = pos-of-ne-zero (c .before .before .before .before .before .before .before .before .before .before .before .before .before .before .before .before .before .before .before .before .before .before .before .before .before .before .before .before .before .before .before .before .before .before .before .if1 .left)
 
--- src/whole.rt:60:13
+-- src/whole.rt:68:17
 run-whole-run-whole-requires : (t : ℕ) → run-whole-lts.Need-run-whole-requires (
   row-size-reads.Asked,
   row-size-reads.Learnt,
@@ -716,18 +1378,30 @@ run-whole-run-whole-requires : (t : ℕ) → run-whole-lts.Need-run-whole-requir
   at-end-reads.Learnt,
   step-change-reads.Asked,
   step-change-reads.Learnt,
+  child-record-reads.Asked,
+  child-record-reads.Learnt,
   run-whole-below t,
   run-whole.Post,
   end-change-reads.Asked,
   end-change-reads.Learnt,
-) (run-whole-at t) run-whole.Post run-whole-Inv-loop run-whole-μ-loop
+)
+    (run-whole-at t)
+    run-whole.Post
+    run-whole-Inv-loop2
+    run-whole-μ-loop2
+    run-whole-Inv-loop3
+    run-whole-μ-loop3
+    run-whole-Inv-loop
+    run-whole-μ-loop
 run-whole-run-whole-requires t c κs =
-    let a = c .before .before .before .before .before .before .before .before .before .before .before .before .before .before .before .before .before .before .before .before .before .before .before .before .before .before .before .before .before .before .before .before .before .args in
-    let some = pos-of-ne-zero (c .before .before .before .before .before .before .before .before .before .before .before .before .before .before .before .before .before .before .before .before .before .before .before .before .before .before .before .before .before .before .before .before .if1 .left) in
-    (subst (λ j. a .bodies - 1 < j) (c .before .before .before .before .before .before .before .before .before .before .before .before .before .before .before .before .before .before .before .before .before .before .before .before .before .before .before .before .before .before .before .before .before .pre .0) (omega (arith, some)), omega (arith, c .before .before .before .before .if3 .left))
+    let a = c .before .before .before .before .before .before .before .before .before .before .before .before .before .before .before .before .before .before .before .before .before .before .before .before .before .before .before .before .before .before .before .before .before .before .before .before .args in
+    let some = pos-of-ne-zero (c .before .before .before .before .before .before .before .before .before .before .before .before .before .before .before .before .before .before .before .before .before .before .before .before .before .before .before .before .before .before .before .before .before .before .before .if1 .left) in (
+      subst (λ j. a .bodies - 1 < j) (c .before .before .before .before .before .before .before .before .before .before .before .before .before .before .before .before .before .before .before .before .before .before .before .before .before .before .before .before .before .before .before .before .before .before .before .before .pre .0) (omega (arith, some)),
+      c .before .before .before .before .before .before .before .before .before .before .before .step-change .ensures .0 .near (c .before .before .before .before .loop3 .j) (c .before .before .before .loop3-test .taken),
+    )
 
--- src/whole.rt:40:5
-run-whole-loop-less-3 : (t : ℕ) → run-whole-lts.Need-loop-less-3 (
+-- src/whole.rt:77:13
+run-whole-add-j : (t : ℕ) → run-whole-lts.Need-add-j (
   row-size-reads.Asked,
   row-size-reads.Learnt,
   start-change-reads.Asked,
@@ -738,15 +1412,25 @@ run-whole-loop-less-3 : (t : ℕ) → run-whole-lts.Need-loop-less-3 (
   at-end-reads.Learnt,
   step-change-reads.Asked,
   step-change-reads.Learnt,
+  child-record-reads.Asked,
+  child-record-reads.Learnt,
   run-whole-below t,
   run-whole.Post,
   end-change-reads.Asked,
   end-change-reads.Learnt,
-) (run-whole-at t) run-whole.Post run-whole-Inv-loop run-whole-μ-loop
-run-whole-loop-less-3 t c = omega (arith, c .before .before .before .before .before .before .before .before .before .before .before .before .before .before .before .before .before .before .before .before .loop-test .taken)
+)
+    (run-whole-at t)
+    run-whole.Post
+    run-whole-Inv-loop2
+    run-whole-μ-loop2
+    run-whole-Inv-loop3
+    run-whole-μ-loop3
+    run-whole-Inv-loop
+    run-whole-μ-loop
+run-whole-add-j t c = search needs
 
--- src/whole.rt:40:5
-run-whole-loop-again-3 : (t : ℕ) → run-whole-lts.Need-loop-again-3 (
+-- src/whole.rt:67:9
+run-whole-loop3-less : (t : ℕ) → run-whole-lts.Need-loop3-less (
   row-size-reads.Asked,
   row-size-reads.Learnt,
   start-change-reads.Asked,
@@ -757,44 +1441,60 @@ run-whole-loop-again-3 : (t : ℕ) → run-whole-lts.Need-loop-again-3 (
   at-end-reads.Learnt,
   step-change-reads.Asked,
   step-change-reads.Learnt,
+  child-record-reads.Asked,
+  child-record-reads.Learnt,
   run-whole-below t,
   run-whole.Post,
   end-change-reads.Asked,
   end-change-reads.Learnt,
-) (run-whole-at t) run-whole.Post run-whole-Inv-loop run-whole-μ-loop
-run-whole-loop-again-3 t c =
-    let a = c .before .before .before .before .before .before .before .before .before .before .before .before .before .before .before .before .before .before .before .before .before .before .before .before .before .before .before .before .before .before .before .before .before .before .args in
-    let sizes = length-lowered (λ (v : ℕ). v) (a .t1 .sizes) 32 (c .before .before .before .before .before .before .before .before .before .before .before .before .before .before .before .before .before .before .before .before .before .before .before .before .before .before .before .before .before .before .before .before .before .before .good .0 .1 .1 .1 .1 .1 .1 .1 .0 .1 .0 .1) in
-    let cells = length-lowered (the-cell .to) (a .t1 .cells) 1024 (c .before .before .before .before .before .before .before .before .before .before .before .before .before .before .before .before .before .before .before .before .before .before .before .before .before .before .before .before .before .before .before .before .before .before .good .0 .1 .1 .1 .1 .1 .1 .1 .1 .0 .1 .0 .1) in
-    let run = joined (a .t1) (a .progress) (now (a .memory)) (now (a .modes)) (now (a .order)) in
-    let size = c .before .before .before .before .before .before .before .before .before .before .before .before .before .before .before .before .before .before .before .before .before .before .before .before .before .before .before .before .row-size in
-    let limit = size .result + 1 in
-    let room = enough-steps run (a .task) (c .before .before .before .before .before .before .before .before .before .before .before .before .before .before .before .before .before .before .before .before .before .before .before .before .before .before .before .before .before .before .before .before .before .before .pre .1) (size .result) (size .ensures .0 ∙ body-size-is (a .t1) (record-of run (a .task) .body) sizes cells) in
-    let change = c .before .before .before .before .before .before .before .before .before .before .before .before .before .before .before .before .before .before .before .before .before .before .before .before .before .start-change in
-    let calls = c .before .before .before .before .before .before .before .before .before .before .before .before .before .before .before .before .before .before .before .before .before .before .before .wrapping-add-u32 in
-    let weight = c .before .before .before .before .before .before .before .before .before .before .before .before .before .before .before .before .before .before .before .before .before .before .wrapping-add-u322 in
-    let from = joined (a .t1) (onward (a .progress) (a .task) (change .result) (calls .result) (weight .result)) (now (a .memory)) (now (a .modes)) (now (a .order)) in
-    let begun = start-joined (a .t1) (a .progress) (now (a .memory)) (now (a .modes)) (now (a .order)) (a .task) (change .result) (calls .result) (weight .result) (calls .ensures) (weight .ensures) (change .ensures) in
-    let l = c .before .before .before .before .before .before .before .before .before .before .before .before .before .before .before .before .before .before .before .before .before .loop in
+)
+    (run-whole-at t)
+    run-whole.Post
+    run-whole-Inv-loop2
+    run-whole-μ-loop2
+    run-whole-Inv-loop3
+    run-whole-μ-loop3
+    run-whole-Inv-loop
+    run-whole-μ-loop
+run-whole-loop3-less t c = search needs
+
+-- src/whole.rt:67:9
+run-whole-loop3-again : (t : ℕ) → run-whole-lts.Need-loop3-again (
+  row-size-reads.Asked,
+  row-size-reads.Learnt,
+  start-change-reads.Asked,
+  start-change-reads.Learnt,
+  wrapping-add-u32-reads.Asked,
+  wrapping-add-u32-reads.Learnt,
+  at-end-reads.Asked,
+  at-end-reads.Learnt,
+  step-change-reads.Asked,
+  step-change-reads.Learnt,
+  child-record-reads.Asked,
+  child-record-reads.Learnt,
+  run-whole-below t,
+  run-whole.Post,
+  end-change-reads.Asked,
+  end-change-reads.Learnt,
+)
+    (run-whole-at t)
+    run-whole.Post
+    run-whole-Inv-loop2
+    run-whole-μ-loop2
+    run-whole-Inv-loop3
+    run-whole-μ-loop3
+    run-whole-Inv-loop
+    run-whole-μ-loop
+run-whole-loop3-again t c =
+    let a = c .before .before .before .before .before .before .before .before .before .before .before .before .before .before .before .before .before .before .before .before .before .before .before .before .before .before .before .before .before .before .before .before .before .before .before .before .before .args in
+    let change = c .before .before .before .before .before .before .before .before .before .before .before .before .step-change .result in
+    let l = c .before .before .before .before .before .loop3 in
     let r = joined (a .t1) (l .p) (l .memory) (l .modes) (l .order) in
-    let size2 = c .before .before .before .before .before .before .before .before .before .before .before .before .before .before .before .row-size2 in
-    let at = c .before .before .before .before .before .before .before .before .before .before .before .before .before .before .at-end in
-    let there : SoundRun r → at .result ≡ at-end (context-of r) (task-of (model r) (a .task)) =
-    λ s. at .ensures ∙ ends r (a .task) (size2 .result) (record-of r (a .task)) (c .before .before .before .before .before .before .before .before .before .before .before .before .before .before .before .before .before .before .before .before .before .before .before .before .before .before .before .before .before .before .before .before .before .before .pre .1) refl (size2 .ensures .0 ∙ body-size-is (a .t1) (record-of r (a .task) .body) sizes cells) s in
-    let stepping = c .before .before .before .before .before .before .before .before .before .step-change in
-    let calls2 = c .before .before .before .before .before .before .before .wrapping-add-u323 in
-    let weight2 = c .before .before .before .before .before .before .wrapping-add-u324 in
-    let m = stepping .last .1 .0 in
-    let ms = stepping .last .1 .1 .0 in
-    let o = stepping .last .1 .1 .1 .0 in
-    let p = onward (l .p) (a .task) (stepping .result) (calls2 .result) (weight2 .result) in
-    let near : stepping .result .child ≤ 127 = omega (arith, c .before .before .before .before .before .if3 .left) in
-    turn-child (a .bodies) (a .task) limit from (l .steps) r (joined (a .t1) (with-record p (stepping .result .child) (stepping .result .made)) m ms o) (l .inv) (c .before .before .before .before .before .before .before .before .before .before .before .before .before .before .before .before .before .before .before .before .loop-test .taken) (at .result) there (c .before .before .before .before .before .before .before .before .before .before .before .before .before .if2 .left)
-    (spawn-joined (a .t1) (l .p) (l .memory) (l .modes) (l .order) (a .task) (stepping .result) (calls2 .result) (weight2 .result) (calls2 .ensures) (weight2 .ensures) m ms o (stepping .ensures) near) (stepping .result .child)
-    (makes-joined (a .t1) (l .p) (l .memory) (l .modes) (l .order) (a .task) (stepping .result) (calls2 .result) (weight2 .result) (calls2 .ensures) (weight2 .ensures) m ms o (stepping .ensures)) near
-    (joined (a .t1) (c .run-whole .result) (c .run-whole .last .1 .1 .0) (c .run-whole .last .1 .1 .1 .0) (c .run-whole .last .1 .1 .1 .1 .0)) (c .run-whole .ensures)
+    let whole = c .run-whole in
+    each-one (a .bodies) (change .child) (change .apart) (change .children) _ (l .j) r (c .before .before .before .before .loop3-test .taken) (l .inv)
+    (joined (a .t1) (whole .result) (whole .last .1 .1 .0) (whole .last .1 .1 .1 .0) (whole .last .1 .1 .1 .1 .0)) (whole .ensures)
 
--- src/whole.rt:62:15
+-- src/whole.rt:80:15
 run-whole-mul-own-3 : (t : ℕ) → run-whole-lts.Need-mul-own-3 (
   row-size-reads.Asked,
   row-size-reads.Learnt,
@@ -806,14 +1506,24 @@ run-whole-mul-own-3 : (t : ℕ) → run-whole-lts.Need-mul-own-3 (
   at-end-reads.Learnt,
   step-change-reads.Asked,
   step-change-reads.Learnt,
+  child-record-reads.Asked,
+  child-record-reads.Learnt,
   run-whole-below t,
   run-whole.Post,
   end-change-reads.Asked,
   end-change-reads.Learnt,
-) (run-whole-at t) run-whole.Post run-whole-Inv-loop run-whole-μ-loop
+)
+    (run-whole-at t)
+    run-whole.Post
+    run-whole-Inv-loop2
+    run-whole-μ-loop2
+    run-whole-Inv-loop3
+    run-whole-μ-loop3
+    run-whole-Inv-loop
+    run-whole-μ-loop
 run-whole-mul-own-3 t c = search needs
 
--- src/whole.rt:62:15
+-- src/whole.rt:80:15
 run-whole-element-copy-out-own-3 : (t : ℕ) → run-whole-lts.Need-element-copy-out-own-3 (
   row-size-reads.Asked,
   row-size-reads.Learnt,
@@ -825,14 +1535,24 @@ run-whole-element-copy-out-own-3 : (t : ℕ) → run-whole-lts.Need-element-copy
   at-end-reads.Learnt,
   step-change-reads.Asked,
   step-change-reads.Learnt,
+  child-record-reads.Asked,
+  child-record-reads.Learnt,
   run-whole-below t,
   run-whole.Post,
   end-change-reads.Asked,
   end-change-reads.Learnt,
-) (run-whole-at t) run-whole.Post run-whole-Inv-loop run-whole-μ-loop
+)
+    (run-whole-at t)
+    run-whole.Post
+    run-whole-Inv-loop2
+    run-whole-μ-loop2
+    run-whole-Inv-loop3
+    run-whole-μ-loop3
+    run-whole-Inv-loop
+    run-whole-μ-loop
 run-whole-element-copy-out-own-3 t c = search needs
 
--- src/whole.rt:63:68
+-- src/whole.rt:81:68
 run-whole-cast-row-size-3 : (t : ℕ) → run-whole-lts.Need-cast-row-size-3 (
   row-size-reads.Asked,
   row-size-reads.Learnt,
@@ -844,14 +1564,24 @@ run-whole-cast-row-size-3 : (t : ℕ) → run-whole-lts.Need-cast-row-size-3 (
   at-end-reads.Learnt,
   step-change-reads.Asked,
   step-change-reads.Learnt,
+  child-record-reads.Asked,
+  child-record-reads.Learnt,
   run-whole-below t,
   run-whole.Post,
   end-change-reads.Asked,
   end-change-reads.Learnt,
-) (run-whole-at t) run-whole.Post run-whole-Inv-loop run-whole-μ-loop
+)
+    (run-whole-at t)
+    run-whole.Post
+    run-whole-Inv-loop2
+    run-whole-μ-loop2
+    run-whole-Inv-loop3
+    run-whole-μ-loop3
+    run-whole-Inv-loop
+    run-whole-μ-loop
 run-whole-cast-row-size-3 t c = search needs
 
--- src/whole.rt:63:9
+-- src/whole.rt:81:9
 run-whole-row-size-requires-3 : (t : ℕ) → run-whole-lts.Need-row-size-requires-3 (
   row-size-reads.Asked,
   row-size-reads.Learnt,
@@ -863,14 +1593,24 @@ run-whole-row-size-requires-3 : (t : ℕ) → run-whole-lts.Need-row-size-requir
   at-end-reads.Learnt,
   step-change-reads.Asked,
   step-change-reads.Learnt,
+  child-record-reads.Asked,
+  child-record-reads.Learnt,
   run-whole-below t,
   run-whole.Post,
   end-change-reads.Asked,
   end-change-reads.Learnt,
-) (run-whole-at t) run-whole.Post run-whole-Inv-loop run-whole-μ-loop
+)
+    (run-whole-at t)
+    run-whole.Post
+    run-whole-Inv-loop2
+    run-whole-μ-loop2
+    run-whole-Inv-loop3
+    run-whole-μ-loop3
+    run-whole-Inv-loop
+    run-whole-μ-loop
 run-whole-row-size-requires-3 t c κs = search needs
 
--- src/whole.rt:64:64
+-- src/whole.rt:82:64
 run-whole-cast-end-change : (t : ℕ) → run-whole-lts.Need-cast-end-change (
   row-size-reads.Asked,
   row-size-reads.Learnt,
@@ -882,14 +1622,24 @@ run-whole-cast-end-change : (t : ℕ) → run-whole-lts.Need-cast-end-change (
   at-end-reads.Learnt,
   step-change-reads.Asked,
   step-change-reads.Learnt,
+  child-record-reads.Asked,
+  child-record-reads.Learnt,
   run-whole-below t,
   run-whole.Post,
   end-change-reads.Asked,
   end-change-reads.Learnt,
-) (run-whole-at t) run-whole.Post run-whole-Inv-loop run-whole-μ-loop
+)
+    (run-whole-at t)
+    run-whole.Post
+    run-whole-Inv-loop2
+    run-whole-μ-loop2
+    run-whole-Inv-loop3
+    run-whole-μ-loop3
+    run-whole-Inv-loop
+    run-whole-μ-loop
 run-whole-cast-end-change t c = omega (arith, c .before .before .before .before .before .before .before .before .before .before .before .before .before .before .before .before .before .before .before .before .pre .1)
 
--- src/whole.rt:64:9
+-- src/whole.rt:82:9
 run-whole-end-change-requires : (t : ℕ) → run-whole-lts.Need-end-change-requires (
   row-size-reads.Asked,
   row-size-reads.Learnt,
@@ -901,14 +1651,24 @@ run-whole-end-change-requires : (t : ℕ) → run-whole-lts.Need-end-change-requ
   at-end-reads.Learnt,
   step-change-reads.Asked,
   step-change-reads.Learnt,
+  child-record-reads.Asked,
+  child-record-reads.Learnt,
   run-whole-below t,
   run-whole.Post,
   end-change-reads.Asked,
   end-change-reads.Learnt,
-) (run-whole-at t) run-whole.Post run-whole-Inv-loop run-whole-μ-loop
+)
+    (run-whole-at t)
+    run-whole.Post
+    run-whole-Inv-loop2
+    run-whole-μ-loop2
+    run-whole-Inv-loop3
+    run-whole-μ-loop3
+    run-whole-Inv-loop
+    run-whole-μ-loop
 run-whole-end-change-requires t c κs = search needs
 
--- src/whole.rt:66:5
+-- src/whole.rt:84:5
 run-whole-mul-next-3 : (t : ℕ) → run-whole-lts.Need-mul-next-3 (
   row-size-reads.Asked,
   row-size-reads.Learnt,
@@ -920,14 +1680,24 @@ run-whole-mul-next-3 : (t : ℕ) → run-whole-lts.Need-mul-next-3 (
   at-end-reads.Learnt,
   step-change-reads.Asked,
   step-change-reads.Learnt,
+  child-record-reads.Asked,
+  child-record-reads.Learnt,
   run-whole-below t,
   run-whole.Post,
   end-change-reads.Asked,
   end-change-reads.Learnt,
-) (run-whole-at t) run-whole.Post run-whole-Inv-loop run-whole-μ-loop
+)
+    (run-whole-at t)
+    run-whole.Post
+    run-whole-Inv-loop2
+    run-whole-μ-loop2
+    run-whole-Inv-loop3
+    run-whole-μ-loop3
+    run-whole-Inv-loop
+    run-whole-μ-loop
 run-whole-mul-next-3 t c = omega (arith, c .before .before .before .before .before .before .before .before .before .before .before .before .before .before .before .before .before .before .before .before .before .before .pre .1)
 
--- src/whole.rt:66:5
+-- src/whole.rt:84:5
 run-whole-element-set-from-next-3 : (t : ℕ) → run-whole-lts.Need-element-set-from-next-3 (
   row-size-reads.Asked,
   row-size-reads.Learnt,
@@ -939,14 +1709,24 @@ run-whole-element-set-from-next-3 : (t : ℕ) → run-whole-lts.Need-element-set
   at-end-reads.Learnt,
   step-change-reads.Asked,
   step-change-reads.Learnt,
+  child-record-reads.Asked,
+  child-record-reads.Learnt,
   run-whole-below t,
   run-whole.Post,
   end-change-reads.Asked,
   end-change-reads.Learnt,
-) (run-whole-at t) run-whole.Post run-whole-Inv-loop run-whole-μ-loop
+)
+    (run-whole-at t)
+    run-whole.Post
+    run-whole-Inv-loop2
+    run-whole-μ-loop2
+    run-whole-Inv-loop3
+    run-whole-μ-loop3
+    run-whole-Inv-loop
+    run-whole-μ-loop
 run-whole-element-set-from-next-3 t c = omega (arith, c .before .before .before .before .before .before .before .before .before .before .before .before .before .before .before .before .before .before .before .before .before .before .pre .1)
 
--- src/whole.rt:68:15
+-- src/whole.rt:86:15
 run-whole-wrapping-add-u32-requires-5 : (t : ℕ) → run-whole-lts.Need-wrapping-add-u32-requires-5 (
   row-size-reads.Asked,
   row-size-reads.Learnt,
@@ -958,14 +1738,24 @@ run-whole-wrapping-add-u32-requires-5 : (t : ℕ) → run-whole-lts.Need-wrappin
   at-end-reads.Learnt,
   step-change-reads.Asked,
   step-change-reads.Learnt,
+  child-record-reads.Asked,
+  child-record-reads.Learnt,
   run-whole-below t,
   run-whole.Post,
   end-change-reads.Asked,
   end-change-reads.Learnt,
-) (run-whole-at t) run-whole.Post run-whole-Inv-loop run-whole-μ-loop
+)
+    (run-whole-at t)
+    run-whole.Post
+    run-whole-Inv-loop2
+    run-whole-μ-loop2
+    run-whole-Inv-loop3
+    run-whole-μ-loop3
+    run-whole-Inv-loop
+    run-whole-μ-loop
 run-whole-wrapping-add-u32-requires-5 t c κs = search needs
 
--- src/whole.rt:69:16
+-- src/whole.rt:87:16
 run-whole-wrapping-add-u32-requires-6 : (t : ℕ) → run-whole-lts.Need-wrapping-add-u32-requires-6 (
   row-size-reads.Asked,
   row-size-reads.Learnt,
@@ -977,11 +1767,21 @@ run-whole-wrapping-add-u32-requires-6 : (t : ℕ) → run-whole-lts.Need-wrappin
   at-end-reads.Learnt,
   step-change-reads.Asked,
   step-change-reads.Learnt,
+  child-record-reads.Asked,
+  child-record-reads.Learnt,
   run-whole-below t,
   run-whole.Post,
   end-change-reads.Asked,
   end-change-reads.Learnt,
-) (run-whole-at t) run-whole.Post run-whole-Inv-loop run-whole-μ-loop
+)
+    (run-whole-at t)
+    run-whole.Post
+    run-whole-Inv-loop2
+    run-whole-μ-loop2
+    run-whole-Inv-loop3
+    run-whole-μ-loop3
+    run-whole-Inv-loop
+    run-whole-μ-loop
 run-whole-wrapping-add-u32-requires-6 t c κs = search needs
 
 -- src/whole.rt:14:1
@@ -996,11 +1796,21 @@ run-whole-returns-2 : (t : ℕ) → run-whole-lts.Need-returns-2 (
   at-end-reads.Learnt,
   step-change-reads.Asked,
   step-change-reads.Learnt,
+  child-record-reads.Asked,
+  child-record-reads.Learnt,
   run-whole-below t,
   run-whole.Post,
   end-change-reads.Asked,
   end-change-reads.Learnt,
-) (run-whole-at t) run-whole.Post run-whole-Inv-loop run-whole-μ-loop
+)
+    (run-whole-at t)
+    run-whole.Post
+    run-whole-Inv-loop2
+    run-whole-μ-loop2
+    run-whole-Inv-loop3
+    run-whole-μ-loop3
+    run-whole-Inv-loop
+    run-whole-μ-loop
 run-whole-returns-2 t c =
     let a = c .before .before .before .before .before .before .before .before .before .before .before .before .before .before .before .before .before .before .before .before .before .before .before .before .args in
     let sizes = length-lowered (λ (v : ℕ). v) (a .t1 .sizes) 32 (c .before .before .before .before .before .before .before .before .before .before .before .before .before .before .before .before .before .before .before .before .before .before .before .before .good .0 .1 .1 .1 .1 .1 .1 .1 .0 .1 .0 .1) in
@@ -1038,6 +1848,8 @@ pub +run-whole-spec : {M : Type 1} → statement M
   at-end-reads.Learnt,
   step-change-reads.Asked,
   step-change-reads.Learnt,
+  child-record-reads.Asked,
+  child-record-reads.Learnt,
   run-whole-below t,
   run-whole.Post,
   end-change-reads.Asked,
@@ -1045,6 +1857,10 @@ pub +run-whole-spec : {M : Type 1} → statement M
 )
     (run-whole-at t)
     run-whole.Post
+    run-whole-Inv-loop2
+    run-whole-μ-loop2
+    run-whole-Inv-loop3
+    run-whole-μ-loop3
     run-whole-Inv-loop
     run-whole-μ-loop
     (run-whole-returns t)
@@ -1074,14 +1890,26 @@ pub +run-whole-spec : {M : Type 1} → statement M
     (run-whole-wrapping-add-u32-requires-3 t)
     (run-whole-wrapping-add-u32-requires-4 t)
     (run-whole-sub-steps t)
+    (run-whole-loop2-holds t)
+    (run-whole-sub-i t)
+    (run-whole-cast-child-record t)
+    (run-whole-child-record-requires t)
+    (run-whole-mul-born t)
+    (run-whole-add-born t)
+    (run-whole-mul-born-2 t)
+    (run-whole-element-set-from-born t)
+    (run-whole-loop2-less t)
+    (run-whole-loop2-again t)
+    (run-whole-loop3-holds t)
     (run-whole-loop-less-2 t)
     (run-whole-loop-again-2 t)
-    (run-whole-mul-made t)
-    (run-whole-element-set-from-made t)
+    (run-whole-mul-run-whole t)
+    (run-whole-add-run-whole t)
     (run-whole-sub-run-whole t)
     (run-whole-run-whole-requires t)
-    (run-whole-loop-less-3 t)
-    (run-whole-loop-again-3 t)
+    (run-whole-add-j t)
+    (run-whole-loop3-less t)
+    (run-whole-loop3-again t)
     (run-whole-mul-own-3 t)
     (run-whole-element-copy-out-own-3 t)
     (run-whole-cast-row-size-3 t)

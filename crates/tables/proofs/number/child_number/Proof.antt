@@ -15,7 +15,7 @@ use Rattle.tables.proofs.number.child_number.Statement.{statement}
 use Rattle.tables.proofs.number.child_number.Tie as tie
 
 abbrev Inv-loop : tie.InvT-loop
-Inv-loop task body pc tables size n₀ i₀ n i = (i ≤ size) × (size ≡ length (body-of (list-of tables) body)) × (size ≤ 32) × (0 < size → body < 32) × (task < 128) × (n ≤ 129 + 255 * i) × Counted tables task body pc n i
+Inv-loop task body pc tables size n₀ i₀ n i = (i ≤ size) × (size ≡ length (body-of (list-of tables) body)) × (size ≤ 32) × (0 < size → body < 32) × (task < 128) × (n ≤ 129 + 65536 * i) × Counted tables task body pc n i
 
 abbrev μ-loop : tie.MeasureT-loop
 μ-loop task body pc tables size n₀ i₀ n i = size - i
@@ -66,9 +66,6 @@ element-copy-out-cell c = omega (arith, c .before .before .loop .inv .3 (omega a
 added-requires : tie.Need-added-requires Inv-loop μ-loop
 added-requires c κs = search needs
 
-wide-requires : tie.Need-wide-requires Inv-loop μ-loop
-wide-requires c κs = search needs
-
 add-n-2 : tie.Need-add-n-2 Inv-loop μ-loop
 add-n-2 c = search needs
 
@@ -92,8 +89,8 @@ loop-again c =
       at .inv .3,
       search needs,
       search needs,
-      counted-more (a .t1) (a .task) (a .body) (a .pc) (at .n) (at .i) (c .wide .result) (getD (a .t1 .cells) (32 * a .body + at .i) blank-cell .instruction) inside (omega arith)
-          (instruction-is (a .t1) (a .body) (search needs) cells (at .i) inside blank-cell) (c .wide .ensures .0 ∙ c .before .added .ensures) (at .inv .6),
+      counted-more (a .t1) (a .task) (a .body) (a .pc) (at .n) (at .i) (c .added .result) (getD (a .t1 .cells) (32 * a .body + at .i) blank-cell .instruction) inside (omega arith)
+          (instruction-is (a .t1) (a .body) (search needs) cells (at .i) inside blank-cell) (c .added .ensures .0 (search needs)) (at .inv .6),
     )
 
 returns-3 : tie.Need-returns-3 Inv-loop μ-loop
@@ -119,7 +116,6 @@ child-number-spec =
     mul-cell-2
     element-copy-out-cell
     added-requires
-    wide-requires
     add-n-2
     add-i
     loop-less

@@ -264,9 +264,9 @@ called-taken a run n e next t h m =
           order = m s .1 .order;
           left = m s .1 .left;
           sound =
-              subst (λ x. Sound (context (list-of x)) 8 (model next)) (sym t)
-              (subst (Sound (context-of run) 8) (sym (m s .0))
-              (sound-kept (context-of run) (list-accepted run s) 8 (fixed-light (list-of (run .tables))) (model run) (s .sound)
+              subst (λ x. Sound (context (list-of x)) 128 (model next)) (sym t)
+              (subst (Sound (context-of run) 128) (sym (m s .0))
+              (sound-kept (context-of run) (list-accepted run s) 128 (fixed-light (list-of (run .tables))) (model run) (s .sound)
               (call-of a n) e (decide-accept (context-of run) (model run) (call-of a n) e (h s))));
         }
 
@@ -274,16 +274,16 @@ called-taken a run n e next t h m =
 abbrev pub own-effect : Task → Bool → ℕ → Effect
 own-effect t leaves w = record { task = t; edit = keep; made = []; leaves = leaves; weight = w }
 
-small-sum : (a b : ℕ) → a ≤ 34816 → b ≤ 8 → (a + b) % 2 ^ 32 ≡ a + b
+small-sum : (a b : ℕ) → a ≤ 557056 → b < 2048 → (a + b) % 2 ^ 32 ≡ a + b
 small-sum a b h k = omega arith
 
 -- What `applied` comes to.
 module _
     (run : Run) (s : SoundRun run) (n : ℕ) (below : n < 128) (own : Record) (order : List ℕ) (left w : ℕ) (leaves : Bool)
-    (same-weight : own .weight ≡ record-of run n .weight) (light : w ≤ 8)
+    (same-weight : own .weight ≡ record-of run n .weight) (light : w < 2048)
     (spliced : take left order ≡ splice n (places n (own-effect (task-from own (row n (run .modes))) leaves w)) (take (run .left) (run .order)))
   where
-    light-own : own .weight ≤ 34816
+    light-own : own .weight ≤ 557056
     light-own =
         let h = weights-most (list-of (run .tables)) (model run) (s .sound) n in
         let q = ap (λ t. t .weight) (own-task run s n below) in
@@ -304,9 +304,9 @@ module _
 
     few-calls : run .calls ≤ 4352
     unfolding model
-    few-calls = calls-most (context-of run) 8 (model run) (s .sound)
+    few-calls = calls-most (context-of run) 128 (model run) (s .sound)
 
-    small-weight : run .weight ≤ 34816
+    small-weight : run .weight ≤ 557056
     unfolding model
     small-weight = weight-most (list-of (run .tables)) (model run) (s .sound)
 

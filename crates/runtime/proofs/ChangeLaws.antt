@@ -24,6 +24,7 @@ use Rattle.semantics.specs.Answers.{refusal-number}
 use Rattle.semantics.proofs.Bounds.{calls-most, weight-most}
 use Rattle.semantics.proofs.Unchanged.{after-refuse}
 use Rattle.tables.specs.Places.{without}
+use Rattle.tables.specs.Children.{numbers}
 use Rattle.runtime.specs.declared.Run.{Run}
 use Rattle.runtime.specs.declared.Called.{Called}
 use Rattle.runtime.specs.declared.Change.{Change}
@@ -33,7 +34,7 @@ use Rattle.runtime.specs.View.{model, context-of, SoundRun}
 use Rattle.runtime.specs.Calls.{call-of, decided, CalledAs, CallsMade}
 use Rattle.runtime.specs.Parts.{Placed, no-record, record-of, start-effect, end-effect, with-state}
 use Rattle.runtime.specs.Steps.{planned, passed, failed, holding, WholeRun, Carries}
-use Rattle.runtime.specs.Changes.{with-parts, ordered, finished, BodySize, kept, counted, put, child-record, with-children, with-made, numbers, ChangeOf, Makes, Fits}
+use Rattle.runtime.specs.Changes.{with-parts, ordered, finished, BodySize, kept, counted, put, child-record, with-children, with-made, ChangeOf, Makes, Fits}
 use Rattle.runtime.proofs.CallLaws.{applied, EndedAs, own-task, one-call, called-refused, start-taken, end-taken}
 use Rattle.runtime.proofs.CarryLaws.{onward, putting, holds-back, step-taken, fault-carried, assign-carried, pass-carried, store-carried}
 
@@ -41,7 +42,7 @@ use Rattle.runtime.proofs.CarryLaws.{onward, putting, holds-back, step-
 module _ (run : Run) (s : SoundRun run) where
   same-calls : (run .calls + 0) % 2 ^ 32 ≡ run .calls
   unfolding model
-  same-calls = omega (arith, calls-most (context-of run) 8 (model run) (s .sound))
+  same-calls = omega (arith, calls-most (context-of run) 128 (model run) (s .sound))
 
   same-weight : (run .weight + 0) % 2 ^ 32 ≡ run .weight
   unfolding model
@@ -173,7 +174,7 @@ module _ (run : Run) (n : ℕ) (t : Record) (same : record-of run n ≡ t) where
 
   -- a plan of the task at this place
   module _
-      (place w : ℕ) (light : w ≤ 8) (below : n < 128) (p : StepPlan)
+      (place w : ℕ) (light : w < 2048) (below : n < 128) (p : StepPlan)
       (there : SoundRun run → Placed run n place × (decided run step n ≡ planned run n w p))
     where
       pub step-held : (k : CallRefusal) → p ≡ Planned.Held k → (c : Change) → c ≡ kept t (run .left) k → StepOf run run n c
@@ -192,7 +193,7 @@ module _ (run : Run) (n : ℕ) (t : Record) (same : record-of run n ≡ t) where
             λ s. ap made-by (there s .1) ∙ none,
           )
 
-  module _ (place w : ℕ) (light : w ≤ 8) (below : n < 128) where
+  module _ (place w : ℕ) (light : w < 2048) (below : n < 128) where
     abbrev Decided : StepPlan → Type 0
     Decided p = SoundRun run → Placed run n place × (decided run step n ≡ planned run n w p)
 
@@ -242,39 +243,17 @@ module _ (run : Run) (n : ℕ) (t : Record) (same : record-of run n ≡ t) where
         stored : Carries n place w (Planned.Store a v) run (after (set (run .memory) a v))
         stored = subst (carried (Planned.Store a v) (left-as (set (run .memory) a v)) (passed 0)) same (store-carried run n place w below a v)
 
-    -- a spawn, by what it promises
+    -- tasks made, by what is promised of them
     pub step-spawn :
-        (s f : ℕ) (next : Run) (c : Change) → Decided (Planned.Spawn s f) → c .answer ≡ Answers.Accepted
-        → Carries n place w (Planned.Spawn s f) run (with-made c (put n c next))
-        → (SoundRun run → Placed run n place → w ≤ 8 → decided run step n ≡ planned run n w (Planned.Spawn s f) → Makes run n c)
+        (s f first k : ℕ) (next : Run) (c : Change) → Decided (Planned.Make s f first k) → c .answer ≡ Answers.Accepted
+        → Carries n place w (Planned.Make s f first k) run (with-made c (put n c next))
+        → (SoundRun run → Placed run n place → w < 2048 → decided run step n ≡ planned run n w (Planned.Make s f first k) → Makes run n c)
         → StepOf run next n c
-    step-spawn s f next c there q h m = (
+    step-spawn s f first k next c there q h m = (
       subst (ChangeOf step n run (with-made c (put n c next))) (sym q)
-          (step-taken run n place w (Planned.Spawn s f) (with-made c (put n c next)) refl light there h),
+          (step-taken run n place w (Planned.Make s f first k) (with-made c (put n c next)) refl light there h),
       λ g. m g (there g .0) light (there g .1),
     )
-
--- The record of child i.
-pub child-first : (i : ℕ) (t : Record) → i ≡ 0 → t ≡ child-record i t
-unfolding child-record
-child-first i t q = ap (λ k. child-record k t) (sym q)
-
-pub child-later :
-    (i : ℕ) (t : Record) → (i ≡ 0 → ⊥)
-    → _≡_ {A = Record}
-    (record {
-      state = t .state;
-      body = t .body;
-      pc = t .pc;
-      registers = set (t .registers) 0 i;
-      steps = t .steps;
-      fault = t .fault;
-      weight = t .weight;
-    })
-    (child-record i t)
-unfolding child-record
-child-later zero t h = absurd (h refl)
-child-later (suc i) t h = refl
 
 -- The records of the first i children are still to be written.
 pub record ChildrenLeft (child apart : ℕ) (made : Record) (children : ℕ) (from : List Record) (i : ℕ) (rs : List Record) : Type 0 where

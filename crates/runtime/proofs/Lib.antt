@@ -7,5 +7,6 @@ pub mod StepLaws
 pub mod CarryLaws
 pub mod MadeLaws
 pub mod ChangeLaws
+pub mod MakeLaws
 pub mod SpawnLaws
 pub mod StepChangeLaws

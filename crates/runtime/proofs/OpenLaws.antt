@@ -147,9 +147,9 @@ module _
         (i .calls)
         (i .weight)
 
-    fresh-sound : Sound (context (list-of t)) 8 (initial (context (list-of t)) numbers)
+    fresh-sound : Sound (context (list-of t)) 128 (initial (context (list-of t)) numbers)
     fresh-sound =
-        initial-sound (context (list-of t)) (accepted-list bytes (list-of t) (l .list)) numbers 8
+        initial-sound (context (list-of t)) (accepted-list bytes (list-of t) (l .list)) numbers 128
         (fits ∙ (unfold list-of in refl)) small
 
     pub opened-sound : SoundRun r
@@ -166,8 +166,8 @@ module _
           order = ap length (i .order) ∙ length-replicate {A = ℕ} 128 0;
           left = omega (arith, i .left);
           sound =
-              subst (λ x. Sound (context (list-of x)) 8 (model r)) (sym (i .tables))
-              (subst (Sound (context (list-of t)) 8) (sym opened-model) fresh-sound);
+              subst (λ x. Sound (context (list-of x)) 128 (model r)) (sym (i .tables))
+              (subst (Sound (context (list-of t)) 128) (sym opened-model) fresh-sound);
         }
 
     pub opened-list : decode bytes ≡ accepted (list-of (r .tables))

@@ -1,20 +1,20 @@
 -- The change that a step comes to, by what was found of the task and its instruction. Assumes nothing.
-use Prim.Native.Nat.{ℕ, _+_, _%_, _^_, _≤_, _<_}
+use Prim.Native.Nat.{ℕ, _+_, _*_, _%_, _^_, _≤_, _<_}
 use mathlib.Core.Path.{_≡_, refl, sym, ap, subst, _∙_}
 use mathlib.Core.List.{List}
 use lib.ListN.{length, getD, set}
+use native.Mathlib.Omega.{arith}
+use native.Mathlib.Nat.{mul-le-mul}
 use Rattle.tasklist.specs.declared.Instruction.{Instruction}
 use Rattle.tasklist.specs.declared.Tables.{Tables}
 use Rattle.tasklist.specs.Encode.{instruction-fields}
-use Rattle.tasklist.specs.TaskList.{body-of, instruction-of}
+use Rattle.tasklist.specs.TaskList.{TaskList, body-of, instruction-of}
 use Rattle.tasklist.specs.Tables.{list-of}
 use Rattle.semantics.specs.declared.Record.{Record}
 use Rattle.semantics.specs.declared.CallRefusal.{CallRefusal}
 use Rattle.semantics.specs.declared.Answer.the-variants as Answers
 use Rattle.semantics.specs.Run.{context, weight-of}
-use Rattle.semantics.specs.Plan.{step}
-use Rattle.semantics.specs.Call.{refuse}
-use Rattle.semantics.specs.Answers.{refusal-number}
+use Rattle.semantics.specs.Plan.{step, units}
 use Rattle.semantics.proofs.Bounds.{fixed-light}
 use Rattle.runtime.specs.declared.Run.{Run}
 use Rattle.runtime.specs.declared.Called.{Called}
@@ -26,10 +26,17 @@ use Rattle.runtime.specs.View.{SoundRun}
 use Rattle.runtime.specs.Calls.{decided, CalledAs}
 use Rattle.runtime.specs.Parts.{Placed, record-of}
 use Rattle.runtime.specs.Steps.{planned, passed, failed, holding, PlansIn}
-use Rattle.runtime.specs.Changes.{with-parts, finished, kept, counted, put, with-children, with-made, ChangeOf, ReadyIn, Fits, SpawnedBy, SteppedBy}
+use Rattle.runtime.specs.Changes.{with-parts, finished, kept, counted, put, with-children, with-made, ChangeOf, ReadyIn, SpawnedBy, SteppedBy}
 use Rattle.runtime.proofs.CallLaws.{called-refused}
 use Rattle.runtime.proofs.StepLaws.{step-settled}
 use Rattle.runtime.proofs.ChangeLaws.{step-refused, step-held, step-fault, step-assign, step-pass, step-store, step-spawn, none-fits, ends}
+
+-- what an instruction weighs
+weighs-little : (l : TaskList) (place count : ℕ) → count < 256 → count * weight-of (context l) place < 2048
+weighs-little l place count h =
+    let w = fixed-light l place in
+    let m = mul-le-mul {n₁ = count} {m₁ = weight-of (context l) place} {n₂ = 255} {m₂ = 8} (omega arith) (omega (arith, w)) in
+    omega (arith, m)
 
 module _ (tables : Tables) (memory modes order : List ℕ) (left : ℕ) (own : Record) (n : ℕ) where
   -- a run with the parts
@@ -42,7 +49,7 @@ module _ (tables : Tables) (memory modes order : List ℕ) (left : ℕ) (own : R
   -- the task stands at this place, and its step comes to this plan, under weight w
   pub record StepsBy (place w : ℕ) (p : StepPlan) : Type 0 where
     pub below : n < 128
-    pub light : w ≤ 8
+    pub light : w < 2048
     pub decides :
         (run : Run) → record-of run n ≡ own → SoundRun (from run)
         → Placed (from run) n place × (decided (from run) step n ≡ planned (from run) n w p)
@@ -59,18 +66,18 @@ module _ (tables : Tables) (memory modes order : List ℕ) (left : ℕ) (own : R
     pub steps-by :
         (place : ℕ) → ReadyIn order left own size n (At place) → (i : Instruction)
         → i ≡ instruction-of (list-of tables) (own .body) (own .pc) → (code : ℕ) → code ≡ getD (instruction-fields i) 0 0
-        → (p : StepPlan) → PlansIn order modes memory (own .registers) n place i p
-        → StepsBy place (weight-of (context (list-of tables)) (code + 2)) p
-    steps-by place ready i at code is p plans =
+        → (p : StepPlan) → PlansIn order modes memory (own .registers) n place i p → (count : ℕ) → count ≡ units i → count < 256
+        → StepsBy place (count * weight-of (context (list-of tables)) (code + 2)) p
+    steps-by place ready i at code is p plans count often few =
         record {
           below = ready .0;
-          light = fixed-light (list-of tables) (code + 2);
+          light = weighs-little (list-of tables) (code + 2) count few;
           decides =
               λ run same s. (
                 ready .3 (from run) s,
                 step-settled (from run) n (ready .0) s place (ready .3 (from run) s) (ap (λ (t : Record). t .state) same ∙ ready .1)
-                    (finished size own) (ends (from run) n size own (ready .0) same fits s) (ready .2) i code
-                    (at ∙ sym (ap (λ (t : Record). instruction-of (list-of tables) (t .body) (t .pc)) same)) is p
+                    (finished size own) (ends (from run) n size own (ready .0) same fits s) (ready .2) i code count
+                    (at ∙ sym (ap (λ (t : Record). instruction-of (list-of tables) (t .body) (t .pc)) same)) is often p
                     (plans (from run) refl (ap (λ (t : Record). t .registers) same)),
               );
         }
@@ -130,14 +137,14 @@ module _ (tables : Tables) (memory modes order : List ℕ) (left : ℕ) (own : R
     )
 
     pub change-spawn :
-        (s f : ℕ) → p ≡ Planned.Spawn s f → (modes′ order′ : List ℕ) (c : Change)
-        → SpawnedBy tables modes order modes′ order′ left own n place s f w c
+        (s f first k : ℕ) → p ≡ Planned.Make s f first k → (modes′ order′ : List ℕ) (c : Change)
+        → SpawnedBy tables modes order modes′ order′ left own n place s f first k w c
         → Stepped memory modes′ order′ c
-    change-spawn s f q modes′ order′ c h = (
+    change-spawn s f first k q modes′ order′ c h = (
       h .1,
       λ run same.
-          step-spawn (from run) n own same place w (b .light) (b .below) s f (with-parts tables memory modes′ order′ left run) c
-          (decides-as (Planned.Spawn s f) q run same) (h .0) (h .2 (from run) same .0) (h .2 (from run) same .1),
+          step-spawn (from run) n own same place w (b .light) (b .below) s f first k (with-parts tables memory modes′ order′ left run) c
+          (decides-as (Planned.Make s f first k) q run same) (h .0) (h .2 (from run) same .0) (h .2 (from run) same .1),
     )
 
 -- The change put into the run.

@@ -1,5 +1,5 @@
 -- What each instruction comes to, in the code's terms. Assumes nothing.
-use Prim.Native.Nat.{ℕ, zero, suc, _+_, _-_, _%_, _^_, _≤_, _<_}
+use Prim.Native.Nat.{ℕ, zero, suc, _+_, _-_, _*_, _%_, _^_, _≤_, _<_}
 use mathlib.Core.Path.{_≡_, refl, sym, ap, subst, _∙_}
 use mathlib.Core.List.{List, [], _∷_}
 use mathlib.Core.Bool.{Bool, true, false, cond}
@@ -11,8 +11,8 @@ use lib.Seq.{getD-take}
 use lib.Dec.{ltb}
 use borrow.Author.Tests.{lt-ltb, le-ltb, eq-eqb, ne-eqb}
 use Rattle.tasklist.specs.declared.Instruction.{Instruction}
-use Rattle.tasklist.specs.declared.Instruction.the-variants.{Const, Add, Sub, Less, Load, Store, Skip, Spawn, Wait}
-use Rattle.tasklist.specs.TaskList.{instruction-of}
+use Rattle.tasklist.specs.declared.Instruction.the-variants.{Const, Add, Sub, Less, Load, Store, Skip, Spawn, Wait, Fan}
+use Rattle.tasklist.specs.TaskList.{footprint-of, instruction-of}
 use Rattle.tasklist.specs.Encode.{instruction-fields}
 use Rattle.tasklist.specs.Tables.{list-of}
 use Rattle.semantics.specs.declared.CallRefusal.{CallRefusal}
@@ -20,7 +20,8 @@ use Rattle.semantics.specs.Run.{Task, weight-of, mode-of, register, task-of}
 use Rattle.semantics.specs.Run as Semantics
 use Rattle.semantics.specs.Access.{Access, every, access-fault}
 use Rattle.semantics.specs.Effect.{Effect, Plan, own, faulted, assigned, passes, storing}
-use Rattle.semantics.specs.Plan.{step, wrap, unless-fault, plan-load, plan-store, plan-wait, passed-over, plan-instruction, step-weight, at-end, plan-step, plan}
+use Rattle.semantics.specs.Plan.{step, wrap, unless-fault, plan-load, plan-store, plan-wait, passed-over, plan-make, plan-instruction, units, step-weight, at-end, plan-step, plan}
+use Rattle.semantics.specs.Footprint.{children, first-register}
 use Rattle.semantics.specs.Call.{refuse, accept, admit, settle}
 use Rattle.semantics.specs.Sound.{In}
 use Rattle.semantics.proofs.SoundModes.{none-grants}
@@ -29,7 +30,9 @@ use Rattle.tables.specs.Rows.{row}
 use Rattle.tables.specs.Ahead.{access, accesses-of, hold-ahead}
 use Rattle.tables.specs.declared.Hold.{Hold}
 use Rattle.tables.specs.declared.Wanted.{Wanted}
+use Rattle.tables.specs.Children.{seen-from}
 use Rattle.tables.proofs.RowLaws.{row-past}
+use Rattle.tables.proofs.ChildLaws.{seen-alone, seen-fan}
 use Rattle.tables.proofs.SearchLaws.{outcome-by}
 use Rattle.tables.proofs.GrantLaws.{own-other}
 use Rattle.runtime.specs.declared.Run.{Run}
@@ -292,8 +295,21 @@ module _ (rs : List ℕ) where
       let t = task-of (model run) n in
       ap (λ z. planned run n w (Planned.Pass z)) (ap (λ z. passed-over (getD z a 0) b) h ∙ ap (λ z. passed-over z b) (sym p) ∙ sym e)
 
-  pub spawn-free : (a f : ℕ) → PlansFree rs (Spawn a f) (Planned.Spawn a f)
-  spawn-free a f = λ run n w h. unfold settled plan-instruction planned in refl
+  pub spawn-free : (a f v : ℕ) → v ≡ getD rs 0 0 → PlansFree rs (Spawn a f) (Planned.Make a f v 1)
+  unfolding settled plan-instruction planned
+  spawn-free a f v q =
+      λ run n w h.
+      let t = task-of (model run) n in
+      ap (λ ts. settle (model run) n (plan-make (context-of run) w n t a (children a (footprint-of (list-of (run .tables)) f) ts)))
+      (sym (seen-alone t) ∙ ap (λ u. seen-from 0 1 (first-register u t)) (ap (λ z. getD z 0 0) h ∙ sym q))
+
+  pub fan-free : (a f k : ℕ) → PlansFree rs (Fan a f k) (Planned.Make a f 0 k)
+  unfolding settled plan-instruction planned
+  fan-free a f k =
+      λ run n w h.
+      let t = task-of (model run) n in
+      ap (λ ts. settle (model run) n (plan-make (context-of run) w n t a (children a (footprint-of (list-of (run .tables)) f) ts)))
+      (sym (seen-fan 0 k t))
 
 -- by the code
 pub free-code :
@@ -309,6 +325,7 @@ free-code rs (Store a x) p code q f g h r = absurd (g q)
 free-code rs (Skip a b) p code q f g h r = r
 free-code rs (Spawn s x) p code q f g h r = r
 free-code rs (Wait a) p code q f g h r = absurd (h q)
+free-code rs (Fan s x k) p code q f g h r = r
 
 pub free-plans :
     (run : Run) (n place : ℕ) (i : Instruction) (p : StepPlan) → n < 128 → PlansFree (record-of run n .registers) i p
@@ -317,17 +334,18 @@ free-plans run n place i p below h = λ s q w. h run n w (ap (λ t. t .registers
 
 pub waiting-code :
     (run : Run) (n place : ℕ) (i : Instruction) (p : StepPlan) (code : ℕ) → code ≡ getD (instruction-fields i) 0 0 → 4 ≤ code
-    → code ≢ 6 → code ≢ 7 → WaitAs run n place i p → Plans run n place i p
+    → code ≢ 6 → code ≢ 7 → code ≢ 9 → WaitAs run n place i p → Plans run n place i p
 unfolding instruction-fields
-waiting-code run n place (Const a v) p code q f g h r = let z : ⊥ = omega arith in absurd z
-waiting-code run n place (Add a x y) p code q f g h r = let z : ⊥ = omega arith in absurd z
-waiting-code run n place (Sub a x y) p code q f g h r = let z : ⊥ = omega arith in absurd z
-waiting-code run n place (Less a x y) p code q f g h r = let z : ⊥ = omega arith in absurd z
-waiting-code run n place (Load a x) p code q f g h r = r
-waiting-code run n place (Store a x) p code q f g h r = r
-waiting-code run n place (Skip a b) p code q f g h r = absurd (g q)
-waiting-code run n place (Spawn s x) p code q f g h r = absurd (h q)
-waiting-code run n place (Wait a) p code q f g h r = r
+waiting-code run n place (Const a v) p code q f g h o r = let z : ⊥ = omega arith in absurd z
+waiting-code run n place (Add a x y) p code q f g h o r = let z : ⊥ = omega arith in absurd z
+waiting-code run n place (Sub a x y) p code q f g h o r = let z : ⊥ = omega arith in absurd z
+waiting-code run n place (Less a x y) p code q f g h o r = let z : ⊥ = omega arith in absurd z
+waiting-code run n place (Load a x) p code q f g h o r = r
+waiting-code run n place (Store a x) p code q f g h o r = r
+waiting-code run n place (Skip a b) p code q f g h o r = absurd (g q)
+waiting-code run n place (Spawn s x) p code q f g h o r = absurd (h q)
+waiting-code run n place (Wait a) p code q f g h o r = r
+waiting-code run n place (Fan s x k) p code q f g h o r = absurd (o q)
 
 -- What is decided of a step.
 module _ (run : Run) (n : ℕ) (below : n < 128) (s : SoundRun run) (place : ℕ) (p : Placed run n place) where
@@ -353,11 +371,13 @@ module _ (run : Run) (n : ℕ) (below : n < 128) (s : SoundRun run) (place : ℕ
         ∙ ap (λ j. settle (model run) n (plan-instruction (context-of run) (step-weight (context-of run) j) n (task-of (model run) n) j)) (sym e)
 
     pub step-settled :
-        b ≡ false → (i : Instruction) (code : ℕ)
+        b ≡ false → (i : Instruction) (code count : ℕ)
         → i ≡ instruction-of (list-of (run .tables)) (record-of run n .body) (record-of run n .pc)
-        → code ≡ getD (instruction-fields i) 0 0 → (x : StepPlan) → Plans run n place i x
-        → decided run step n ≡ planned run n (weight-of (context-of run) (code + 2)) x
+        → code ≡ getD (instruction-fields i) 0 0 → count ≡ units i → (x : StepPlan) → Plans run n place i x
+        → decided run step n ≡ planned run n (count * weight-of (context-of run) (code + 2)) x
     unfolding step-weight
-    step-settled q i code e f x h =
+    step-settled q i code count e f u x h =
         model-step q i (e ∙ ap (λ t. instruction-of (list-of (run .tables)) (t .body) (t .pc)) (sym (own-task run s n below)))
-        ∙ h s p (step-weight (context-of run) i) ∙ ap (λ k. planned run n (weight-of (context-of run) (k + 2)) x) (sym f)
+        ∙ h s p (step-weight (context-of run) i)
+        ∙ ap (λ k. planned run n (units i * weight-of (context-of run) (k + 2)) x) (sym f)
+        ∙ ap (λ k. planned run n (k * weight-of (context-of run) (code + 2)) x) (sym u)

@@ -16,12 +16,14 @@ use Rattle.semantics.specs.Plan.{Action, start, step, «end»}
 use Rattle.semantics.specs.Call.{refuse}
 use Rattle.semantics.specs.Sequential.{made-by}
 use Rattle.semantics.specs.Answers.{refusal-number}
+use Rattle.tables.specs.Grants.{child-registers}
+use Rattle.tables.specs.Children.{numbers}
 use Rattle.runtime.specs.declared.Run.{Run}
 use Rattle.runtime.specs.declared.Change.{Change}
 use Rattle.runtime.specs.declared.Located.{Located}
 use Rattle.runtime.specs.declared.Located.the-variants.{Refused, At}
 use Rattle.runtime.specs.declared.StepPlan.{StepPlan}
-use Rattle.runtime.specs.declared.StepPlan.the-variants.{Spawn}
+use Rattle.runtime.specs.declared.StepPlan.the-variants.{Make}
 use Rattle.runtime.specs.View.{SoundRun}
 use Rattle.runtime.specs.Calls.{call-of, decided, CalledAs, CallsMade}
 use Rattle.runtime.specs.Parts.{Placed, LocatedAs, PlannedAs, record-of, start-effect, end-effect, heavier}
@@ -124,14 +126,13 @@ put n c run =
     }
 
 -- request 104: "Child i has R0 = i": the record of child i, by that of the foremost, child 0
-unfoldable pub child-record : ℕ → Record → Record
-child-record zero t = t
-child-record (suc i) t =
+abbrev pub child-record : ℕ → Record → Record
+child-record i t =
     record {
       state = t .state;
       body = t .body;
       pc = t .pc;
-      registers = set (t .registers) 0 (suc i);
+      registers = child-registers i (t .registers);
       steps = t .steps;
       fault = t .fault;
       weight = t .weight;
@@ -176,29 +177,24 @@ EndedBy order after left own size n c =
     (run : Run) → record-of run n ≡ own → BodySize size own run
     → ChangeOf «end» n (ordered order left run) (put n c (ordered after left run)) (c .answer)
 
--- k numbers from the first on, so far apart
-unfoldable pub numbers : ℕ → ℕ → ℕ → List ℕ
-numbers first apart zero = []
-numbers first apart (suc k) = first ∷ numbers (first + apart) apart k
-
 -- these are the tasks that a step of task n makes, foremost first
 abbrev pub Makes : Run → ℕ → Change → Type 0
 Makes run n c = made-by (decided run step n) ≡ numbers (c .child) (c .apart) (c .children)
 
 -- the records of all tasks made have a place
 pub record Fits (c : Change) : Type 0 where
-  pub few : c .children ≤ 16
+  pub few : c .children ≤ 128
   pub near : (i : ℕ) → i < c .children → c .child + i * c .apart < 128
 
--- a spawn of the task at this place, which leaves other modes and another order
+-- tasks made by the task at this place, which leaves other modes and another order
 abbrev pub SpawnedBy :
-    Tables → List ℕ → List ℕ → List ℕ → List ℕ → ℕ → Record → ℕ → ℕ → ℕ → ℕ → ℕ → Change → Type 0
-SpawnedBy tables modes order modes′ order′ left own n place body f w c =
+    Tables → List ℕ → List ℕ → List ℕ → List ℕ → ℕ → Record → ℕ → ℕ → ℕ → ℕ → ℕ → ℕ → ℕ → Change → Type 0
+SpawnedBy tables modes order modes′ order′ left own n place body f first k w c =
     (c .answer ≡ Answers.Accepted) × Fits c
     × ((run : Run) → record-of run n ≡ own
     → let from = with-parts tables (run .memory) modes order left run in
-    Carries n place w (Spawn body f) from (with-made c (put n c (with-parts tables (run .memory) modes′ order′ left run)))
-    × (SoundRun from → Placed from n place → w ≤ 8 → decided from step n ≡ planned from n w (Spawn body f) → Makes from n c))
+    Carries n place w (Make body f first k) from (with-made c (put n c (with-parts tables (run .memory) modes′ order′ left run)))
+    × (SoundRun from → Placed from n place → w < 2048 → decided from step n ≡ planned from n w (Make body f first k) → Makes from n c))
 
 -- a step, which leaves another memory, other modes and another order
 abbrev pub SteppedBy :

@@ -6,18 +6,19 @@ use mathlib.Core.Bool.{Bool, true, false}
 use mathlib.Core.Logic.{_≢_}
 use lib.ListN.{length, take, set}
 use Rattle.tasklist.specs.declared.Instruction.{Instruction}
-use Rattle.tasklist.specs.declared.Instruction.the-variants.{Const, Add, Sub, Less, Load, Store, Skip, Spawn, Wait}
+use Rattle.tasklist.specs.declared.Instruction.the-variants.{Const, Add, Sub, Less, Load, Store, Skip, Spawn, Wait, Fan}
 use Rattle.tasklist.specs.TaskList.{footprint-of}
 use Rattle.tasklist.specs.Tables.{list-of}
 use Rattle.semantics.specs.declared.Record.{Record}
 use Rattle.semantics.specs.Run.{mode-of, task-of}
 use Rattle.semantics.specs.Access.{access-fault}
 use Rattle.semantics.specs.Effect.{Effect, own, moved, faulted, assigned, storing}
-use Rattle.semantics.specs.Footprint.{child-modes}
-use Rattle.semantics.specs.Plan.{step, plan-instruction, plan-spawn}
+use Rattle.semantics.specs.Footprint.{children, first-register}
+use Rattle.semantics.specs.Plan.{step, plan-instruction, plan-make}
 use Rattle.semantics.specs.Call.{Outcome, refuse, accept, admit, settle, apply}
 use Rattle.semantics.specs.Answers.{refusal-number}
 use Rattle.tables.specs.Ahead.{access}
+use Rattle.tables.specs.Children.{seen-from}
 use Rattle.tables.specs.Places.{insert-at}
 use Rattle.tables.specs.Rows.{with}
 use Rattle.runtime.specs.declared.Run.{Run}
@@ -70,10 +71,11 @@ planned run n w (Planned.Assign a v) = accept (own w (assigned a v (task-of (mod
 planned run n w (Planned.Pass k) =
     accept (own w (moved (1 + k) (task-of (model run) n .registers) (task-of (model run) n)))
 planned run n w (Planned.Store a v) = accept (storing w a v (task-of (model run) n))
-planned run n w (Planned.Spawn s f) =
+planned run n w (Planned.Make s f first k) =
     let t = task-of (model run) n in
     settle (model run) n
-    (plan-spawn (context-of run) w n t s (child-modes t (footprint-of (list-of (run .tables)) f)))
+    (plan-make (context-of run) w n t s
+    (children s (footprint-of (list-of (run .tables)) f) (seen-from 0 k (first-register first t))))
 
 -- what an instruction of task n comes to
 unfoldable pub settled : Run → ℕ → ℕ → Instruction → Outcome
@@ -104,6 +106,7 @@ FreeAs rs (Store a x) p = Unit {0}
 FreeAs rs (Skip a b) p = PlansFree rs (Skip a b) p
 FreeAs rs (Spawn s f) p = PlansFree rs (Spawn s f) p
 FreeAs rs (Wait a) p = Unit {0}
+FreeAs rs (Fan s f k) p = PlansFree rs (Fan s f k) p
 
 -- of those that may wait
 abbrev pub WaitAs : Run → ℕ → ℕ → Instruction → StepPlan → Type 0
@@ -116,6 +119,7 @@ WaitAs run n place (Store a x) p = Plans run n place (Store a x) p
 WaitAs run n place (Skip a b) p = Unit {0}
 WaitAs run n place (Spawn s f) p = Unit {0}
 WaitAs run n place (Wait a) p = Plans run n place (Wait a) p
+WaitAs run n place (Fan s f k) p = Unit {0}
 
 abbrev pub WaitIn : List ℕ → List ℕ → List ℕ → List ℕ → ℕ → ℕ → Instruction → StepPlan → Type 0
 WaitIn order modes memory registers n place i p =
@@ -179,10 +183,10 @@ pub record WholeRun (run : Run) : Type 0 where
   pub order : length (run .order) ≡ 128
   pub left : run .left ≤ 128
 
--- the run after a plan of the task at this place is carried out
+-- the run after a plan of the task at this place is carried out, under a weight that keeps the counters below 2^32
 pub record Carries (n place w : ℕ) (p : StepPlan) (from r : Run) : Type 0 where
   pub list : r .tables ≡ from .tables
   pub effect :
-      SoundRun from → Placed from n place → w ≤ 8 → (e : Effect) → planned from n w p ≡ accept e
+      SoundRun from → Placed from n place → w < 2048 → (e : Effect) → planned from n w p ≡ accept e
       → decided from step n ≡ accept e
       → (model r ≡ apply n e (model from)) × WholeRun r

@@ -46,8 +46,8 @@ pub record SoundRun (run : Run) : Type 0 where
   pub modes : length (run .modes) ≡ 8192
   pub order : length (run .order) ≡ 128
   pub left : run .left ≤ 128
-  -- bounds of the records, the memory and the counters; no weight is above 8
-  pub sound : Sound (context-of run) 8 (model run)
+  -- bounds of the records, the memory and the counters; no call's weight is above 128, that of a fan's 16 children
+  pub sound : Sound (context-of run) 128 (model run)
 
 -- "Never made: all zero.", but for the modes
 unfoldable pub blank-record : Record

@@ -17,8 +17,8 @@ use semantics::Record;
 use tables::Hold;
 use tables::Place;
 
-// "start 5, end 2, codes 0 to 8: 1, 1, 1, 1, 3, 4, 1, 8, 1"
-pub const WEIGHTS: [u32; 11] = [5, 2, 1, 1, 1, 1, 3, 4, 1, 8, 1];
+// "start 5, end 2, codes 0 to 8: 1, 1, 1, 1, 3, 4, 1, 8, 1"; request 104: 8 for each child of a fan
+pub const WEIGHTS: [u32; 12] = [5, 2, 1, 1, 1, 1, 3, 4, 1, 8, 1, 8];
 
 // The place of a task in the order: 9, then 10.
 pub fn place_of(order: &[u8; 128], left: usize, task: u32) -> Located

@@ -87,11 +87,8 @@ fn newborn(own: Record, body: u8) -> Record
 pub fn child_record(made: Record, i: u32) -> Record
     ensures { λ r. ⌜ r ≡ child-record i made ⌝ }
 {
-    if i == 0 {
-        return made;
-    }
-    let mut registers = made.registers;
-    registers[0] = i;
+    let before = made.registers;
+    let registers = tables::child_registers(before, i);
     let mut next = made;
     next.registers = registers;
     next
@@ -142,7 +139,8 @@ pub fn changed(own: Record, left: usize, weight: u32) -> Change
     }
 }
 
-// A task is made, or the spawn faults: "A spawn that faults has no child."
+// So many tasks are made, or none: "A spawn that faults has no child."; request 104: "If any child would fault, in order of
+// children and lines, none is made."
 pub fn spawned(
     tables: Tables,
     modes: &mut [u8; 8192],
@@ -153,14 +151,17 @@ pub fn spawned(
     place: usize,
     body: u8,
     footprint: u8,
+    first: u32,
+    children: u8,
     weight: u32,
 ) -> Change
     requires { ⌜ task < 128 ⌝ }
-    ensures { λ r. ⌜ SpawnedBy tables (now (modes .entry)) (now (order .entry)) (now (modes .exit)) (now (order .exit)) left own task place body footprint weight r ⌝ }
+    ensures { λ r. ⌜ SpawnedBy tables (now (modes .entry)) (now (order .entry)) (now (modes .exit)) (now (order .exit)) left own task place body footprint first children weight r ⌝ }
 {
     let row = tables::row_of(modes, task);
-    let registers = own.registers;
-    let granting = tables::granted(tables, footprint as usize, registers, row);
+    let seen = holding(own, 0, first);
+    let registers = seen.registers;
+    let granting = tables::granted_all(tables, footprint as usize, registers, row, children);
     let grant = granting.grant;
     match grant {
         Grant::Denied(fault) => {
@@ -170,27 +171,38 @@ pub fn spawned(
         Grant::Granted => {
             let next = passed(own, 0);
             let child = tables::child_number(tables, task, own.body as usize, own.pc as usize);
+            let apart = listing::task_count(tables, body as usize);
             let after = changed(next, left, weight);
-            if 127 < child {
+            let fit = tables::fits(left, child, apart, children);
+            if !fit {
                 return after;
             }
-            if 127 < left {
-                return after;
-            }
-            let given = granting.modes;
-            tables::put_row(modes, child, given);
-            tables::insert(order, left, place, child as u8);
+            let last = granting.modes;
+            tables::put_children(
+                tables,
+                footprint as usize,
+                registers,
+                row,
+                last,
+                modes,
+                order,
+                left,
+                place,
+                child,
+                apart,
+                children,
+            );
             let charged = after.own;
-            let made = newborn(own, body);
+            let made = newborn(seen, body);
             Change {
                 answer: Answer::Accepted,
                 own: charged,
-                left: left + 1,
+                left: left + (children as usize),
                 calls: 1,
                 weight,
-                children: 1,
+                children: children as usize,
                 child,
-                apart: 1,
+                apart: apart as usize,
                 made,
             }
         }

@@ -72,16 +72,33 @@ pub enum Access {
 // What an instruction comes to, by the task's own record and a look at the tasks ahead.
 pub enum StepPlan {
     // The task is held back: 19, 20.
-    Held { refusal: CallRefusal },
-    Fault { fault: u8 },
+    Held {
+        refusal: CallRefusal,
+    },
+    Fault {
+        fault: u8,
+    },
     // One step on, with a value in a register.
-    Assign { target: u8, value: u32 },
+    Assign {
+        target: u8,
+        value: u32,
+    },
     // One step on, and over this many instructions.
-    Pass { over: u8 },
+    Pass {
+        over: u8,
+    },
     // One step on, with a value at a location.
-    Store { location: usize, value: u32 },
-    // One step on with a task made, or the fault of its footprint.
-    Spawn { body: u8, footprint: u8 },
+    Store {
+        location: usize,
+        value: u32,
+    },
+    // One step on with so many tasks made, or the first fault of their footprints; `first` is R0 of the foremost.
+    Make {
+        body: u8,
+        footprint: u8,
+        first: u32,
+        children: u8,
+    },
 }
 
 // What a call changes: the task's record, how many tasks are left, what is counted, and the tasks made. The memory, the modes

@@ -7,7 +7,7 @@ ghost use lib.ListN.{getD};
 ghost use lib.Dec.{ltb};
 ghost use Rattle.tasklist.specs.declared.Instruction.the-variants.{Load, Store, Wait};
 ghost use Rattle.tasklist.specs.Encode.{instruction-fields};
-ghost use Rattle.semantics.specs.Plan.{passed-over};
+ghost use Rattle.semantics.specs.Plan.{passed-over, units};
 ghost use Rattle.runtime.specs.Steps.{AccessIn, PlansIn, FreeAs, WaitIn};
 use crate::Access;
 use crate::StepPlan;
@@ -55,7 +55,7 @@ fn value_at(memory: [u32; 64], location: usize) -> u32
 
 // The code of an instruction.
 pub fn code_of(instruction: Instruction) -> usize
-    ensures { λ r. ⌜ (r ≡ getD (instruction-fields instruction) 0 0) × (r < 9) ⌝ }
+    ensures { λ r. ⌜ (r ≡ getD (instruction-fields instruction) 0 0) × (r < 10) ⌝ }
 {
     match instruction {
         Instruction::Const {
@@ -91,6 +91,64 @@ pub fn code_of(instruction: Instruction) -> usize
             footprint: _,
         } => 7,
         Instruction::Wait { place: _ } => 8,
+        Instruction::Fan {
+            body: _,
+            footprint: _,
+            children: _,
+        } => 9,
+    }
+}
+
+// A byte as 32 bits.
+fn wide(n: u8) -> u32
+    ensures { λ r. ⌜ (r ≡ n) × (r < 256) ⌝ }
+{
+    n as u32
+}
+
+// How often the number of its code an instruction weighs; request 104: "The weight is 8 × c."
+pub fn units_of(instruction: Instruction) -> u32
+    ensures { λ r. ⌜ (r ≡ units instruction) × (r < 256) ⌝ }
+{
+    match instruction {
+        Instruction::Const {
+            target: _,
+            value: _,
+        } => 1,
+        Instruction::Add {
+            target: _,
+            left: _,
+            right: _,
+        } => 1,
+        Instruction::Sub {
+            target: _,
+            left: _,
+            right: _,
+        } => 1,
+        Instruction::Less {
+            target: _,
+            left: _,
+            right: _,
+        } => 1,
+        Instruction::Load {
+            target: _,
+            place: _,
+        } => 1,
+        Instruction::Store {
+            place: _,
+            source: _,
+        } => 1,
+        Instruction::Skip { test: _, length: _ } => 1,
+        Instruction::Spawn {
+            body: _,
+            footprint: _,
+        } => 1,
+        Instruction::Wait { place: _ } => 1,
+        Instruction::Fan {
+            body: _,
+            footprint: _,
+            children,
+        } => wide(children),
     }
 }
 
@@ -196,7 +254,7 @@ fn wait_plan<'a>(
     }
 }
 
-// "Const, add, sub, less, skip and spawn never wait." The others are not asked of here.
+// "Const, add, sub, less, skip and spawn never wait.", nor does a fan. The others are not asked of here.
 fn free_plan(registers: [u32; 4], instruction: Instruction) -> StepPlan
     ensures { λ r. ⌜ FreeAs registers instruction r ⌝ }
 {
@@ -247,7 +305,25 @@ fn free_plan(registers: [u32; 4], instruction: Instruction) -> StepPlan
                 over: passed_over(a, length),
             }
         }
-        Instruction::Spawn { body, footprint } => StepPlan::Spawn { body, footprint },
+        Instruction::Spawn { body, footprint } => {
+            let own = tables::register_at(registers, 0);
+            StepPlan::Make {
+                body,
+                footprint,
+                first: own,
+                children: 1,
+            }
+        }
+        Instruction::Fan {
+            body,
+            footprint,
+            children,
+        } => StepPlan::Make {
+            body,
+            footprint,
+            first: 0,
+            children,
+        },
         Instruction::Load {
             target: _,
             place: _,
@@ -306,6 +382,11 @@ fn waiting_plan<'a>(
             body: _,
             footprint: _,
         } => StepPlan::Pass { over: 0 },
+        Instruction::Fan {
+            body: _,
+            footprint: _,
+            children: _,
+        } => StepPlan::Pass { over: 0 },
     }
 }
 
@@ -324,7 +405,7 @@ pub fn plan_of<'a>(
     ensures { λ r. ⌜ PlansIn (now (order .entry)) (now (modes .entry)) memory registers task place instruction r ⌝ }
 {
     match code {
-        0 | 1 | 2 | 3 | 6 | 7 => free_plan(registers, instruction),
+        0 | 1 | 2 | 3 | 6 | 7 | 9 => free_plan(registers, instruction),
         _ => waiting_plan(order, modes, memory, registers, task, place, instruction),
     }
 }

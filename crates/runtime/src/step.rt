@@ -22,6 +22,7 @@ use crate::carry::store;
 use crate::carry::unchanged;
 use crate::parts::code_of;
 use crate::parts::plan_of;
+use crate::parts::units_of;
 use semantics::Answer;
 use semantics::CallRefusal;
 use semantics::Record;
@@ -85,7 +86,8 @@ pub fn step_change(
                 code,
                 instruction,
             );
-            let weight = WEIGHTS[code + 2];
+            let count = units_of(instruction);
+            let weight = count * WEIGHTS[code + 2];
             match plan {
                 StepPlan::Held { refusal } => unchanged(own, left, refusal),
                 StepPlan::Fault { fault } => {
@@ -106,9 +108,11 @@ pub fn step_change(
                     store(memory, location, value);
                     changed(next, left, weight)
                 }
-                StepPlan::Spawn {
+                StepPlan::Make {
                     body: sheet,
                     footprint,
+                    first,
+                    children,
                 } => spawned(
                     tables,
                     modes,
@@ -119,6 +123,8 @@ pub fn step_change(
                     place,
                     sheet,
                     footprint,
+                    first,
+                    children,
                     weight,
                 ),
             }

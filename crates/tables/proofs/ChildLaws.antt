@@ -7,12 +7,13 @@ use native.Mathlib.Omega.{arith}
 use native.Mathlib.Nat.{zero-mul, suc-mul, mul-le-mul-right}
 use native.Mathlib.Decide.{ℕ-discrete}
 use native.Mathlib.Numerals.{add-one, sub-one}
-use lib.ListN.{length, take, drop, getD, set, take-append-drop, length-append}
+use lib.ListN.{length, take, drop, getD, set, take-append-drop, length-append, length-set, length-replicate}
 use lib.Seq.{set-set, set-getD, drop-cons, take-at, drop-at, length-take-le}
 use Rattle.tasklist.specs.declared.Line.{Line}
 use Rattle.semantics.specs.Run.{Task, no-modes}
 use Rattle.semantics.specs.Effect.{child}
-use Rattle.semantics.specs.Footprint.{Grant, denied, granted, child-modes, Children, none-made, all-made, with-first, children, first-register, fan-of}
+use Rattle.semantics.specs.Access.{Access, access-fault}
+use Rattle.semantics.specs.Footprint.{Grant, denied, granted, all-targets, twice, first-fault, unless-denied, grant, child-modes, Children, none-made, all-made, with-first, children, first-register, fan-of}
 use Rattle.semantics.specs.Call.{splice}
 use Rattle.semantics.specs.Sound.{Distinct}
 use Rattle.tables.specs.declared.Granting.{Granting}
@@ -92,6 +93,32 @@ abbrev pub modes-in : Grant → List ℕ
 modes-in (denied k) = []
 modes-in (granted modes) = modes
 
+-- k items from item i on
+unfoldable pub list-from : {A : Type 0} → (ℕ → A) → ℕ → ℕ → List A
+list-from g i zero = []
+list-from g i (suc k) = g i ∷ list-from g (suc i) k
+
+-- a row has 64 modes
+grant-length : (t : Task) (so-far : List ℕ) (gs : List Access) (ms : List ℕ) → grant t so-far gs ≡ granted ms → length ms ≡ length so-far
+unfolding grant unless-denied
+grant-length t so-far [] ms q = ap (λ g. length (modes-in g)) (sym q)
+grant-length t so-far (g ∷ gs) ms q =
+    sort (grant-length t (set so-far (g .location) (g .mode)) gs ms)
+    (first-fault (access-fault (getD (t .modes) (g .location) 0) (g .mode)) (twice (getD so-far (g .location) 0))) q
+  where
+    sort :
+        (grant t (set so-far (g .location) (g .mode)) gs ≡ granted ms → length ms ≡ length (set so-far (g .location) (g .mode)))
+        → (k : ℕ) → unless-denied k (grant t (set so-far (g .location) (g .mode)) gs) ≡ granted ms → length ms ≡ length so-far
+    sort ih zero e = ih e ∙ length-set so-far (g .location) (g .mode)
+    sort ih (suc k) e = let z : _≡_ {A = ℕ} 0 1 = cc in let bad : ⊥ = omega arith in absurd bad
+
+pub child-length :
+    (registers own : List ℕ) (ls : List Line) (i : ℕ) (ms : List ℕ) → child-grant registers own ls i ≡ granted ms → length ms ≡ 64
+unfolding child-grant child-modes no-modes
+child-length registers own ls i ms q =
+    grant-length (spawner (child-registers i registers) own) no-modes (all-targets (spawner (child-registers i registers) own) ls) ms q
+    ∙ length-replicate {A = ℕ} 64 0
+
 -- a row that was given
 modes-given : (a : Answer) (modes ms : List ℕ) → granted-by a modes ≡ granted ms → modes ≡ ms
 modes-given (Denied k) modes ms q = let z : _≡_ {A = ℕ} 0 1 = cc in let bad : ⊥ = omega arith in absurd bad
@@ -108,10 +135,9 @@ module _ (s : ℕ) (ls : List Line) (t : Task) where
   abbrev pub given : ℕ → Grant
   given i = child-grant (t .registers) (t .modes) ls i
 
-  -- k children from child i on
-  unfoldable pub born-from : ℕ → ℕ → List Task
-  born-from i zero = []
-  born-from i (suc k) = child s (modes-in (given i)) (seen-by i t) ∷ born-from (suc i) k
+  -- child i, where it is made
+  abbrev pub born : ℕ → Task
+  born i = child s (modes-in (given i)) (seen-by i t)
 
   child-seen : (i : ℕ) → child-modes (seen-by i t) ls ≡ given i
   unfolding child-grant
@@ -135,13 +161,13 @@ module _ (s : ℕ) (ls : List Line) (t : Task) where
 
   -- all of them are made
   pub record AllBorn (i k : ℕ) (last : List ℕ) : Type 0 where
-    pub made : children s ls (seen-from i k t) ≡ all-made (born-from i k)
+    pub made : children s ls (seen-from i k t) ≡ all-made (list-from born i k)
     pub each : (j : ℕ) → i ≤ j → j < i + k → given j ≡ granted (modes-in (given j))
     pub hindmost : 0 < k → last ≡ modes-in (given (i + k - 1))
 
   pub children-granted :
       (k i : ℕ) (modes last : List ℕ) → grants-from given i k (granted modes) ≡ granted last → AllBorn i k last
-  unfolding grants-from children seen-from born-from unless-faulted with-first
+  unfolding grants-from children seen-from list-from unless-faulted with-first
   children-granted zero i modes last q =
       record {
         made = refl;
@@ -160,21 +186,21 @@ module _ (s : ℕ) (ls : List Line) (t : Task) where
       sort (denied m) e q rest = let z : _≡_ {A = ℕ} 0 1 = cc in let bad : ⊥ = omega arith in absurd bad
       sort (granted ms) e q rest = record { made = made; each = each; hindmost = hindmost }
         where
-          born : AllBorn (suc i) k last
-          born = rest ms q
+          others : AllBorn (suc i) k last
+          others = rest ms q
 
-          made : children s ls (seen-from i (suc k) t) ≡ all-made (born-from i (suc k))
+          made : children s ls (seen-from i (suc k) t) ≡ all-made (list-from born i (suc k))
           made =
               ap (λ g. with-first s (seen-by i t) g (children s ls (seen-from (suc i) k t))) (child-seen i ∙ e)
-              ∙ ap (with-first s (seen-by i t) (granted ms)) (born .made)
-              ∙ ap (λ g. all-made (child s (modes-in g) (seen-by i t) ∷ born-from (suc i) k)) (sym e)
+              ∙ ap (with-first s (seen-by i t) (granted ms)) (others .made)
+              ∙ ap (λ g. all-made (child s (modes-in g) (seen-by i t) ∷ list-from born (suc i) k)) (sym e)
 
           each : (j : ℕ) → i ≤ j → j < i + suc k → given j ≡ granted (modes-in (given j))
           each j a b = by (ℕ-discrete j i)
             where
               by : Dec (j ≡ i) → given j ≡ granted (modes-in (given j))
               by (yes q) = ahead j ms e q
-              by (no n) = born .each j (omega arith) (omega arith)
+              by (no n) = others .each j (omega arith) (omega arith)
 
           hindmost : 0 < suc k → last ≡ modes-in (given (i + suc k - 1))
           hindmost h = by k refl
@@ -186,7 +212,7 @@ module _ (s : ℕ) (ls : List Line) (t : Task) where
                   ap modes-in same ∙ ap (λ m. modes-in (given m)) here
               by (suc m) z =
                   let here : suc i + k - 1 ≡ i + suc k - 1 = omega arith in
-                  born .hindmost (omega arith) ∙ ap (λ m. modes-in (given m)) here
+                  others .hindmost (omega arith) ∙ ap (λ m. modes-in (given m)) here
 
 -- a spawn's one child, and the children of a fan
 pub seen-alone : (t : Task) → seen-from 0 1 (first-register (getD (t .registers) 0 0) t) ≡ t ∷ []

@@ -1,6 +1,6 @@
 -- A number above 127, refused, or the change put into the run: the task's own record, then those of the tasks made.
 -- Assumes nothing.
-use Prim.Native.Nat.{ℕ, _+_, _-_, _*_, _<_}
+use Prim.Native.Nat.{_+_, _-_, _*_, _<_}
 use native.Mathlib.Omega.{arith}
 use Rattle.semantics.specs.Plan.{step}
 use Rattle.runtime.proofs.ChangeLaws.{ChildrenLeft, children-all, child-written, children-written}
@@ -59,7 +59,7 @@ wrapping-add-u32-requires-2 : tie.Need-wrapping-add-u32-requires-2 Inv-loop μ-l
 wrapping-add-u32-requires-2 c κs = search needs
 
 loop-holds : tie.Need-loop-holds Inv-loop μ-loop
-loop-holds c = search needs
+loop-holds c = children-all _ _ _ _ _
 
 sub-i : tie.Need-sub-i Inv-loop μ-loop
 sub-i c = search needs

@@ -1,18 +1,24 @@
--- The foremost child's record, or R0 = i.
+-- The registers are those of the part.
 -- Assumes nothing.
-use Rattle.runtime.proofs.ChangeLaws.{child-first, child-later}
+use mathlib.Core.Path.{ap}
 use borrow.Author.Needs.{needs}
 use Rattle.runtime.proofs.carry.child_record.Statement.{statement}
 use Rattle.runtime.proofs.carry.child_record.Tie as tie
 
+child-registers-requires : tie.Need-child-registers-requires
+child-registers-requires c κs = search needs
+
 returns : tie.Need-returns
-returns c = child-first (c .before .args .i) (c .before .args .made) (c .if1 .taken)
-
-array-write-registers : tie.Need-array-write-registers
-array-write-registers c = search needs
-
-returns-2 : tie.Need-returns-2
-returns-2 c = child-later (c .before .before .args .i) (c .before .before .args .made) (c .before .if1 .left)
+returns c =
+    ap (λ rs. record {
+      state = c .before .before .args .made .state;
+      body = c .before .before .args .made .body;
+      pc = c .before .before .args .made .pc;
+      registers = rs;
+      steps = c .before .before .args .made .steps;
+      fault = c .before .before .args .made .fault;
+      weight = c .before .before .args .made .weight;
+    }) (c .child-registers .ensures)
 
 pub child-record-spec : {M : Type 1} → statement M
-child-record-spec = tie.close (tie.spec returns array-write-registers returns-2)
+child-record-spec = tie.close (tie.spec child-registers-requires returns)

@@ -1,35 +1,55 @@
--- Denied, no room, or a task made.
+-- Denied, no room, or the tasks made.
 -- Assumes nothing.
-use mathlib.Core.Path.{refl, ap, _∙_}
-use Prim.Native.Nat.{ℕ, _+_, _<_}
-use Rattle.semantics.specs.declared.Answer.the-variants.{Accepted}
+use Prim.Native.Nat.{ℕ, _+_, _≤_, _<_}
+use mathlib.Core.Path.{_≡_, refl, sym, ap, subst, _∙_}
 use native.Mathlib.Omega.{arith}
-use Rattle.tasklist.proofs.PlaceLaws.{length-lowered}
+use lib.ListN.{set}
+use borrow.Author.Tests.{not-true, not-false}
 use denote.Ref.{now}
+use Rattle.tasklist.specs.TaskList.{footprint-of}
+use Rattle.tasklist.specs.Tables.{list-of}
+use Rattle.semantics.specs.declared.Record.{Record}
+use Rattle.semantics.specs.declared.Answer.the-variants.{Accepted}
+use Rattle.semantics.specs.Run.{no-modes}
+use Rattle.semantics.specs.Footprint.{granted}
+use Rattle.tables.specs.Grants.{grant-of, child-grant, grants-from}
+use Rattle.tables.specs.Children.{Fit, RowsOf}
 use Rattle.runtime.specs.declared.Change.{Change}
+use Rattle.runtime.specs.Steps.{newborn}
 use Rattle.runtime.specs.Changes.{with-parts, counted}
 use Rattle.runtime.proofs.ChangeLaws.{none-fits}
-use Rattle.runtime.proofs.SpawnLaws.{spawn-denied, spawn-full, spawn-made, one-fits}
+use Rattle.runtime.proofs.SpawnLaws.{bearing, spawn-denied, spawn-full, spawn-made, fit-fits}
 use borrow.Author.Needs.{needs}
 use Rattle.runtime.proofs.carry.spawned.Statement.{statement}
 use Rattle.runtime.proofs.carry.spawned.Tie as tie
-use Rattle.runtime.proofs.carry.spawned.Reads as reads
-use Rattle.runtime.proofs.carry.spawned.Lts as lts
-use Rattle.runtime.proofs.carry.changed.Reads as changed-reads
-use Rattle.runtime.proofs.carry.failed.Reads as failed-reads
-use Rattle.runtime.proofs.carry.newborn.Reads as newborn-reads
-use Rattle.runtime.proofs.carry.passed.Reads as passed-reads
-use Rattle.tables.proofs.granted.Reads as granted-reads
-use Rattle.tables.proofs.put_row.Reads as put-row-reads
-use Rattle.tables.proofs.row_of.Reads as row-of-reads
-use Rattle.tables.proofs.child_number.Reads as child-number-reads
-use Rattle.tables.proofs.insert.Reads as insert-reads
+
+-- what is granted, by the registers that the foremost child has
+grants :
+    (c : tie.After-granted-all)
+    → let a = c .before .before .before .before .before .args in
+    grant-of (c .granted-all .result)
+    ≡ grants-from (child-grant (set (a .own .registers) 0 (a .first)) (c .before .before .before .row-of .result) (footprint-of (list-of (a .tables)) (a .footprint))) 0 (a .children) (granted no-modes)
+grants c =
+    let a = c .before .before .before .before .before .args in
+    c .granted-all .ensures
+    ∙ ap (λ (t : Record). grants-from (child-grant (t .registers) (c .before .before .before .row-of .result) (footprint-of (list-of (a .tables)) (a .footprint))) 0 (a .children) (granted no-modes))
+    (c .before .before .holding .ensures)
+
+-- all have a place
+fit :
+    (c : tie.Else1)
+    → let a = c .before .before .before .before .before .before .before .before .before .before .before .before .before .before .before .args in
+    Fit (a .left) (c .before .before .before .before .child-number .result) (c .before .before .before .task-count .result) (a .children)
+fit c = c .before .fits2 .ensures .0 (not-false (c .before .fits2 .result) (c .if1 .left))
 
 row-of-requires : tie.Need-row-of-requires
 row-of-requires c κs = search needs
 
-granted-requires : tie.Need-granted-requires
-granted-requires c κs = search needs
+holding-requires : tie.Need-holding-requires
+holding-requires c κs = search needs
+
+granted-all-requires : tie.Need-granted-all-requires
+granted-all-requires c κs = search needs
 
 enum-known-grant : tie.Need-enum-known-grant
 enum-known-grant c = search needs
@@ -55,114 +75,104 @@ cast-child-number-2 c = search needs
 child-number-requires : tie.Need-child-number-requires
 child-number-requires c κs = search needs
 
+task-count-requires : tie.Need-task-count-requires
+task-count-requires c κs = search needs
+
 changed-requires-2 : tie.Need-changed-requires-2
 changed-requires-2 c κs = search needs
 
+fits-requires : tie.Need-fits-requires
+fits-requires c κs = search needs
+
 returns : tie.Need-returns
 returns c =
-    let a = c .before .before .before .before .before .before .before .before .before .before .before .before .args in
-    let granted = c .before .before .before .before .before .before .before .before .granted in
-    let row = c .before .before .before .before .before .before .before .before .before .before .row-of in
-    let number = c .before .before .child-number in
-    let changed = c .before .changed2 in (
-      ap (λ (x : Change). x .answer) (changed .ensures),
-      none-fits (changed .result) (ap (λ (x : Change). x .children) (changed .ensures)),
-      λ run same.
-          spawn-full (with-parts (a .tables) (run .memory) (now (a .modes)) (now (a .order)) (a .left) run)
-          (a .task) (a .place) (a .weight) (a .body) (a .footprint) (c .before .before .before .before .before .before .before .before .before .before .before .before .pre) (a .own) same (granted .result)
-          (row .result) (row .ensures) (granted .ensures) (c .before .before .before .before .before .before .enum-told .given .1)
-          (number .result) (number .ensures)
-          (λ k l. let z : ⊥ = omega (arith, k, l, c .if1 .taken) in z) (c .before .before .before .before .before .passed .result) (changed .result) (changed .ensures),
-    )
-
-returns-2 : tie.Need-returns-2
-returns-2 c =
-    let a = c .before .before .before .before .before .before .before .before .before .before .before .before .before .args in
-    let granted = c .before .before .before .before .before .before .before .before .before .granted in
-    let row = c .before .before .before .before .before .before .before .before .before .before .before .row-of in
-    let number = c .before .before .before .child-number in
+    let a = c .before .before .before .before .before .before .before .before .before .before .before .before .before .before .before .args in
+    let granted = c .before .before .before .before .before .before .before .before .before .before in
+    let row = c .before .before .before .before .before .before .before .before .before .before .before .before .before .row-of in
+    let number = c .before .before .before .before .child-number in
+    let count = c .before .before .before .task-count in
     let changed = c .before .before .changed2 in (
       ap (λ (x : Change). x .answer) (changed .ensures),
       none-fits (changed .result) (ap (λ (x : Change). x .children) (changed .ensures)),
       λ run same.
           spawn-full (with-parts (a .tables) (run .memory) (now (a .modes)) (now (a .order)) (a .left) run)
-          (a .task) (a .place) (a .weight) (a .body) (a .footprint) (c .before .before .before .before .before .before .before .before .before .before .before .before .before .pre) (a .own) same (granted .result)
-          (row .result) (row .ensures) (granted .ensures) (c .before .before .before .before .before .before .before .enum-told .given .1)
-          (number .result) (number .ensures)
-          (λ k l. let z : ⊥ = omega (arith, k, l, c .if2 .taken) in z) (c .before .before .before .before .before .before .passed .result) (changed .result) (changed .ensures),
+          (a .task) (a .place) (a .weight) (a .body) (a .footprint) (a .first) (a .children) (c .before .before .before .before .before .before .before .before .before .before .before .before .before .before .before .pre) (a .own) same
+          (granted .granted-all .result) (row .result) (row .ensures) (grants granted) (c .before .before .before .before .before .before .before .before .enum-told .given .1)
+          (number .result) (count .result) (number .ensures) (count .ensures)
+          (c .before .fits2 .ensures .1 (not-true (c .before .fits2 .result) (c .if1 .taken)))
+          (c .before .before .before .before .before .before .before .passed .result) (changed .result) (changed .ensures),
     )
 
-put-row-requires : tie.Need-put-row-requires
-put-row-requires c κs = search needs
-
-cast-insert : tie.Need-cast-insert
-cast-insert c = search needs
-
-insert-requires : tie.Need-insert-requires
-insert-requires c κs = search needs
+put-children-requires : tie.Need-put-children-requires
+put-children-requires c κs = fit (c .before .before .before)
 
 newborn-requires : tie.Need-newborn-requires
 newborn-requires c κs = search needs
 
-add-t26 : tie.Need-add-t26
-add-t26 c = search needs
+add-t32 : tie.Need-add-t32
+add-t32 c = omega (arith, fit (c .before .before .before .before .before .before) .places)
 
-returns-3 : tie.Need-returns-3
-returns-3 c =
-    let a = c .before .before .before .before .before .before .before .before .before .args in
-    let granted = c .before .before .before .before .before .granted in
-    let row = c .before .before .before .before .before .before .before .row-of in
+cast-t39 : tie.Need-cast-t39
+cast-t39 c = search needs
+
+returns-2 : tie.Need-returns-2
+returns-2 c =
+    let a = c .before .before .before .before .before .before .before .before .before .before .args in
+    let granted = c .before .before .before .before .before in
+    let row = c .before .before .before .before .before .before .before .before .row-of in
     let fault = c .before .before .before .grant .given .0 .0 in (
       ap (λ (x : Change). x .answer) (c .changed .ensures),
       none-fits (c .changed .result) (ap (λ (x : Change). x .children) (c .changed .ensures)),
       λ run same.
           spawn-denied (with-parts (a .tables) (run .memory) (now (a .modes)) (now (a .order)) (a .left) run)
-          (a .task) (a .place) (a .weight) (a .body) (a .footprint) (c .before .before .before .before .before .before .before .before .before .pre) (a .own) same (granted .result)
-          (row .result) (row .ensures) (granted .ensures) fault (c .before .before .before .grant .given .1)
+          (a .task) (a .place) (a .weight) (a .body) (a .footprint) (a .first) (a .children) (c .before .before .before .before .before .before .before .before .before .before .pre) (a .own) same
+          (granted .granted-all .result) (row .result) (row .ensures) (grants granted) fault (c .before .before .before .grant .given .1)
           (c .changed .result) (c .changed .ensures ∙ ap (λ t. counted t (a .left) (a .weight)) (c .before .failed .ensures)),
     )
 
-returns-4 : tie.Need-returns-4
-returns-4 c =
-    let a = c .before .before .before .before .before .before .before .before .before .before .before .before .before .before .before .before .before .before .before .before .args in
-    let granted = c .before .before .before .before .before .before .before .before .before .before .before .before .before .before .before .before .granted in
-    let row = c .before .before .before .before .before .before .before .before .before .before .before .before .before .before .before .before .before .before .row-of in
+returns-3 : tie.Need-returns-3
+returns-3 c =
+    let a = c .before .before .before .before .before .before .before .before .before .before .before .before .before .before .before .before .before .before .before .before .before .args in
+    let granted = c .before .before .before .before .before .before .before .before .before .before .before .before .before .before .before .before in
+    let row = c .before .before .before .before .before .before .before .before .before .before .before .before .before .before .before .before .before .before .before .row-of in
+    let seen = c .before .before .before .before .before .before .before .before .before .before .before .before .before .before .before .before .before .before .holding in
     let number = c .before .before .before .before .before .before .before .before .before .before .child-number in
-    let put-row = c .before .before .before .before .put-row in
-    let insert = c .before .before .insert in
-    let near : number .result < 128 = omega (arith, c .before .before .before .before .before .before .before .before .if1 .left) in
+    let count = c .before .before .before .before .before .before .before .before .before .task-count in
+    let after = c .before .before .before .before .before .before .before .before .changed2 in
+    let put = c .before .before .put-children in
+    let charged = after .ensures ∙ ap (λ t. counted t (a .left) (a .weight)) (c .before .before .before .before .before .before .before .before .before .before .before .before .before .passed .ensures .0) in
+    let made = c .newborn .ensures ∙ ap (newborn (a .body)) (seen .ensures) in
     let change : Change =
     record {
       answer = Accepted;
-      own = c .before .before .before .before .before .before .before .before .before .changed2 .result .own;
-      left = a .left + 1;
+      own = after .result .own;
+      left = a .left + a .children;
       calls = 1;
       weight = a .weight;
-      children = 1;
+      children = a .children;
       child = number .result;
-      apart = 1;
+      apart = count .result;
       made = c .newborn .result;
-    } in
-    let charged = c .before .before .before .before .before .before .before .before .before .changed2 .ensures ∙ ap (λ t. counted t (a .left) (a .weight)) (c .before .before .before .before .before .before .before .before .before .before .before .before .before .passed .ensures .0) in (
+    } in (
       refl,
-      one-fits (number .result) near change refl refl refl,
+      fit-fits (a .left) (number .result) (count .result) (a .children) (fit (c .before .before .before .before .before .before)) change refl refl refl,
       λ run same.
           spawn-made (with-parts (a .tables) (run .memory) (now (a .modes)) (now (a .order)) (a .left) run)
-          (a .task) (a .place) (a .weight) (a .body) (a .footprint) (c .before .before .before .before .before .before .before .before .before .before .before .before .before .before .before .before .before .before .before .before .pre) (a .own) same (granted .result)
-          (row .result) (row .ensures) (granted .ensures) (c .before .before .before .before .before .before .before .before .before .before .before .before .before .before .enum-told .given .1)
-          (number .result) (number .ensures) near (put-row .last .0) (insert .last .0)
-          (length-lowered (λ (v : ℕ). v) (granted .result .modes) 64 (granted .ok .1 .1 .1 .0 .1 .0 .1)) (put-row .ensures .0) (insert .ensures .1) (insert .ensures .0)
+          (a .task) (a .place) (a .weight) (a .body) (a .footprint) (a .first) (a .children) (c .before .before .before .before .before .before .before .before .before .before .before .before .before .before .before .before .before .before .before .before .before .pre) (a .own) same
+          (granted .granted-all .result) (row .result) (row .ensures) (grants granted) (c .before .before .before .before .before .before .before .before .before .before .before .before .before .before .enum-told .given .1)
+          (number .result) (count .result) (number .ensures) (count .ensures) (put .last .1 .1 .1 .1 .1 .0) (put .last .1 .1 .1 .1 .1 .1 .0)
+          (λ rs r. put .ensures .0 rs (subst (λ (t : Record). RowsOf (t .registers) (row .result) (footprint-of (list-of (a .tables)) (a .footprint)) (granted .granted-all .result .modes) (a .children) rs) (sym (seen .ensures)) r)) (put .ensures .1) (put .ensures .2)
           change
           (λ i. record {
             answer = Accepted;
             own = charged i .own;
-            left = a .left + 1;
+            left = a .left + a .children;
             calls = 1;
             weight = a .weight;
-            children = 1;
+            children = a .children;
             child = number .result;
-            apart = 1;
-            made = c .newborn .ensures i;
+            apart = count .result;
+            made = made i;
           }),
     )
 
@@ -171,7 +181,8 @@ spawned-spec =
     tie.close
     (tie.spec
     row-of-requires
-    granted-requires
+    holding-requires
+    granted-all-requires
     enum-known-grant
     failed-requires
     changed-requires
@@ -180,13 +191,13 @@ spawned-spec =
     cast-child-number
     cast-child-number-2
     child-number-requires
+    task-count-requires
     changed-requires-2
+    fits-requires
     returns
-    returns-2
-    put-row-requires
-    cast-insert
-    insert-requires
+    put-children-requires
     newborn-requires
-    add-t26
-    returns-3
-    returns-4)
+    add-t32
+    cast-t39
+    returns-2
+    returns-3)

@@ -37,6 +37,9 @@ enum-told-8 c = search needs
 enum-told-9 : tie.Need-enum-told-9
 enum-told-9 c = search needs
 
+enum-told-10 : tie.Need-enum-told-10
+enum-told-10 c = search needs
+
 returns : tie.Need-returns
 unfolding instruction-fields
 returns c =
@@ -82,6 +85,11 @@ unfolding instruction-fields
 returns-9 c =
     (sym (ap (λ i. getD (instruction-fields i) 0 0) (c .enum-told9 .given .1)), omega arith)
 
+returns-10 : tie.Need-returns-10
+unfolding instruction-fields
+returns-10 c =
+    (sym (ap (λ i. getD (instruction-fields i) 0 0) (c .enum-told10 .given .1)), omega arith)
+
 pub code-of-spec : {M : Type 1} → statement M
 code-of-spec =
     tie.close
@@ -95,6 +103,7 @@ code-of-spec =
     enum-told-7
     enum-told-8
     enum-told-9
+    enum-told-10
     returns
     returns-2
     returns-3
@@ -103,4 +112,5 @@ code-of-spec =
     returns-6
     returns-7
     returns-8
-    returns-9)
+    returns-9
+    returns-10)

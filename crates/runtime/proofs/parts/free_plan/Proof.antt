@@ -1,9 +1,9 @@
 -- A law for each of those that never wait; of the others nothing is said.
 -- Assumes nothing.
 use mathlib.Core.Path.{sym, ap, subst}
-use Rattle.runtime.proofs.StepLaws.{const-free, add-free, sub-free, less-free, skip-free, spawn-free}
+use Rattle.runtime.proofs.StepLaws.{const-free, add-free, sub-free, less-free, skip-free, spawn-free, fan-free}
 use Rattle.runtime.specs.Steps.{FreeAs}
-use Rattle.runtime.specs.declared.StepPlan.the-variants.{Assign, Pass, Spawn}
+use Rattle.runtime.specs.declared.StepPlan.the-variants.{Assign, Pass, Make}
 use borrow.Author.Needs.{needs}
 use Rattle.runtime.proofs.parts.free_plan.Statement.{statement}
 use Rattle.runtime.proofs.parts.free_plan.Tie as tie
@@ -70,6 +70,12 @@ passed-over-requires c κs = search needs
 enum-known-instruction-6 : tie.Need-enum-known-instruction-6
 enum-known-instruction-6 c = search needs
 
+register-at-requires-8 : tie.Need-register-at-requires-8
+register-at-requires-8 c κs = search needs
+
+enum-known-instruction-7 : tie.Need-enum-known-instruction-7
+enum-known-instruction-7 c = search needs
+
 enum-told : tie.Need-enum-told
 enum-told c = search needs
 
@@ -101,18 +107,27 @@ returns-5 c =
 
 returns-6 : tie.Need-returns-6
 returns-6 c =
-    subst (λ i. FreeAs (c .before .before .before .args .registers) i (Spawn (c .before .instruction6 .given .0 .0) (c .before .instruction6 .given .0 .1 .0))) (sym (c .before .instruction6 .given .1)) (spawn-free (c .before .before .before .args .registers) (c .before .instruction6 .given .0 .0) (c .before .instruction6 .given .0 .1 .0))
+    let i = c .before .before .instruction6 .given in
+    let rs = c .before .before .before .before .args .registers in
+    subst (λ x. FreeAs rs x (Make (i .0 .0) (i .0 .1 .0) (c .register-at8 .result) 1)) (sym (i .1))
+    (spawn-free rs (i .0 .0) (i .0 .1 .0) (c .register-at8 .result) (c .register-at8 .ensures))
 
 returns-7 : tie.Need-returns-7
 returns-7 c =
-    subst (λ i. FreeAs (c .before .before .args .registers) i (Pass 0)) (sym (c .enum-told .given .1)) tt
+    let i = c .before .instruction7 .given in
+    let rs = c .before .before .before .args .registers in
+    subst (λ x. FreeAs rs x (Make (i .0 .0) (i .0 .1 .0) 0 (i .0 .1 .1 .0))) (sym (i .1)) (fan-free rs (i .0 .0) (i .0 .1 .0) (i .0 .1 .1 .0))
 
 returns-8 : tie.Need-returns-8
 returns-8 c =
-    subst (λ i. FreeAs (c .before .before .args .registers) i (Pass 0)) (sym (c .enum-told2 .given .1)) tt
+    subst (λ i. FreeAs (c .before .before .args .registers) i (Pass 0)) (sym (c .enum-told .given .1)) tt
 
 returns-9 : tie.Need-returns-9
 returns-9 c =
+    subst (λ i. FreeAs (c .before .before .args .registers) i (Pass 0)) (sym (c .enum-told2 .given .1)) tt
+
+returns-10 : tie.Need-returns-10
+returns-10 c =
     subst (λ i. FreeAs (c .before .before .args .registers) i (Pass 0)) (sym (c .enum-told3 .given .1)) tt
 
 pub free-plan-spec : {M : Type 1} → statement M
@@ -137,6 +152,8 @@ free-plan-spec =
     register-at-requires-7
     passed-over-requires
     enum-known-instruction-6
+    register-at-requires-8
+    enum-known-instruction-7
     enum-told
     enum-told-2
     enum-told-3
@@ -148,4 +165,5 @@ free-plan-spec =
     returns-6
     returns-7
     returns-8
-    returns-9)
+    returns-9
+    returns-10)

@@ -49,6 +49,9 @@ enum-told-5 c = search needs
 enum-told-6 : tie.Need-enum-told-6
 enum-told-6 c = search needs
 
+enum-told-7 : tie.Need-enum-told-7
+enum-told-7 c = search needs
+
 returns : tie.Need-returns
 returns c =
     let a = c .before .before .before .before .args in
@@ -106,6 +109,12 @@ returns-9 c =
     λ run m e.
     subst (λ i. WaitAs (looking (now (a .order)) (now (a .modes)) run) (a .task) (a .place) i (Pass 0)) (sym (c .enum-told6 .given .1)) tt
 
+returns-10 : tie.Need-returns-10
+returns-10 c =
+    let a = c .before .before .args in
+    λ run m e.
+    subst (λ i. WaitAs (looking (now (a .order)) (now (a .modes)) run) (a .task) (a .place) i (Pass 0)) (sym (c .enum-told7 .given .1)) tt
+
 pub waiting-plan-spec : {M : Type 1} → statement M
 waiting-plan-spec =
     tie.close
@@ -122,6 +131,7 @@ waiting-plan-spec =
     enum-told-4
     enum-told-5
     enum-told-6
+    enum-told-7
     returns
     returns-2
     returns-3
@@ -130,4 +140,5 @@ waiting-plan-spec =
     returns-6
     returns-7
     returns-8
-    returns-9)
+    returns-9
+    returns-10)

@@ -72,24 +72,27 @@ instruction-at c =
     let a = start-of c .args in
     getD (a .t1 .cells) (32 * a .own .body + a .own .pc) blank-cell .instruction
 
-abbrev weight-at : tie.After-plan-of → ℕ
-weight-at c = weight-of (context (list-of (start-of (found-of c) .args .t1))) (c .before .before .before .before .before .code-of .result + 2)
+abbrev weight-at : tie.After-units-of → ℕ
+weight-at c =
+    c .units-of .result
+    * weight-of (context (list-of (start-of (found-of (c .before)) .args .t1))) (c .before .before .before .before .before .before .code-of .result + 2)
 
 there :
-    (c : tie.After-plan-of)
-    → let a = start-of (found-of c) .args in
-    StepsBy (a .t1) (a .memory .now) (a .modes .now) (a .order .now) (a .left) (a .own) (a .task) (place-at (found-of c)) (weight-at c)
-    (c .plan-of .result)
+    (c : tie.After-units-of)
+    → let a = start-of (found-of (c .before)) .args in
+    StepsBy (a .t1) (a .memory .now) (a .modes .now) (a .order .now) (a .left) (a .own) (a .task) (place-at (found-of (c .before))) (weight-at c)
+    (c .before .plan-of .result)
 there c =
-    let f = found-of c in
+    let f = found-of (c .before) in
     let s = start-of f in
     let a = s .args in
     let fits = size-is (f .before .before .before .before) in
+    let code = c .before .before .before .before .before .before .code-of in
     steps-by (a .t1) (a .memory .now) (a .modes .now) (a .order .now) (a .left) (a .own) (a .task) (size-at f) fits (place-at f) (ready f)
     (instruction-at f)
     (instruction-is (a .t1) (a .own .body) (sizes-whole s) (cells-whole s) (a .own .pc) (omega (arith, within f, fits)) blank-cell)
-    (c .before .before .before .before .before .code-of .result) (c .before .before .before .before .before .code-of .ensures .0)
-    (c .plan-of .result) (c .plan-of .ensures)
+    (code .result) (code .ensures .0) (c .before .plan-of .result) (c .before .plan-of .ensures)
+    (c .units-of .result) (c .units-of .ensures .0) (c .units-of .ensures .1)
 
 cast-body : tie.Need-cast-body
 cast-body c = search needs
@@ -131,6 +134,9 @@ plan-of-requires : tie.Need-plan-of-requires
 plan-of-requires c κs =
     (ready (c .before .before .before .before .before .before .before .before) .0, c .before .before .before .before .code-of .ensures .0)
 
+units-of-requires : tie.Need-units-of-requires
+units-of-requires c κs = search needs
+
 add-weight : tie.Need-add-weight
 add-weight c = search needs
 
@@ -139,6 +145,10 @@ mul-weight c = search needs
 
 array-read-weight : tie.Need-array-read-weight
 array-read-weight c = search needs
+
+mul-weight-2 : tie.Need-mul-weight-2
+unfolding weight-of fixed-weights
+mul-weight-2 c = omega (arith, there c .light)
 
 enum-known-plan : tie.Need-enum-known-plan
 enum-known-plan c = search needs
@@ -192,7 +202,7 @@ enum-known-plan-6 : tie.Need-enum-known-plan-6
 enum-known-plan-6 c = search needs
 
 spawned-requires : tie.Need-spawned-requires
-spawned-requires c κs = ready (c .before .before .before .before .before .before .before .before .before .before .before .before .before .before) .0
+spawned-requires c κs = ready (c .before .before .before .before .before .before .before .before .before .before .before .before .before .before .before) .0
 
 returns : tie.Need-returns
 returns c =
@@ -208,24 +218,24 @@ returns-2 : tie.Need-returns-2
 unfolding weight-of fixed-weights
 returns-2 c =
     let p = c .before .before .before .before in
-    let a = start-of (found-of p) .args in
-    change-held (a .t1) (a .memory .now) (a .modes .now) (a .order .now) (a .left) (a .own) (a .task) (place-at (found-of p)) (weight-at p) (p .plan-of .result) (there p)
+    let a = start-of (found-of (p .before)) .args in
+    change-held (a .t1) (a .memory .now) (a .modes .now) (a .order .now) (a .left) (a .own) (a .task) (place-at (found-of (p .before))) (weight-at p) (p .before .plan-of .result) (there p)
     (c .before .before .plan .given .0 .0) (c .before .before .plan .given .1) (c .unchanged2 .result) (c .unchanged2 .ensures)
 
 returns-3 : tie.Need-returns-3
 unfolding weight-of fixed-weights
 returns-3 c =
     let p = c .before .before .before .before .before in
-    let a = start-of (found-of p) .args in
-    change-fault (a .t1) (a .memory .now) (a .modes .now) (a .order .now) (a .left) (a .own) (a .task) (place-at (found-of p)) (weight-at p) (p .plan-of .result) (there p)
+    let a = start-of (found-of (p .before)) .args in
+    change-fault (a .t1) (a .memory .now) (a .modes .now) (a .order .now) (a .left) (a .own) (a .task) (place-at (found-of (p .before))) (weight-at p) (p .before .plan-of .result) (there p)
     (c .before .before .before .plan2 .given .0 .0) (c .before .before .before .plan2 .given .1) (c .before .failed .result) (c .before .failed .ensures) (c .changed .result) (c .changed .ensures)
 
 returns-4 : tie.Need-returns-4
 unfolding weight-of fixed-weights
 returns-4 c =
     let p = c .before .before .before .before .before .before in
-    let a = start-of (found-of p) .args in
-    change-assign (a .t1) (a .memory .now) (a .modes .now) (a .order .now) (a .left) (a .own) (a .task) (place-at (found-of p)) (weight-at p) (p .plan-of .result) (there p)
+    let a = start-of (found-of (p .before)) .args in
+    change-assign (a .t1) (a .memory .now) (a .modes .now) (a .order .now) (a .left) (a .own) (a .task) (place-at (found-of (p .before))) (weight-at p) (p .before .plan-of .result) (there p)
     (c .before .before .before .before .plan3 .given .0 .0) (c .before .before .before .before .plan3 .given .0 .1 .0) (c .before .before .before .before .plan3 .given .1) (c .before .before .passed .result) (c .before .holding .result) (c .before .before .passed .ensures .0) (c .before .holding .ensures)
     (c .changed2 .result) (c .changed2 .ensures)
 
@@ -233,16 +243,16 @@ returns-5 : tie.Need-returns-5
 unfolding weight-of fixed-weights
 returns-5 c =
     let p = c .before .before .before .before .before in
-    let a = start-of (found-of p) .args in
-    change-pass (a .t1) (a .memory .now) (a .modes .now) (a .order .now) (a .left) (a .own) (a .task) (place-at (found-of p)) (weight-at p) (p .plan-of .result) (there p)
+    let a = start-of (found-of (p .before)) .args in
+    change-pass (a .t1) (a .memory .now) (a .modes .now) (a .order .now) (a .left) (a .own) (a .task) (place-at (found-of (p .before))) (weight-at p) (p .before .plan-of .result) (there p)
     (c .before .before .before .plan4 .given .0 .0) (c .before .passed2 .ensures .1) (c .before .before .before .plan4 .given .1) (c .before .passed2 .result) (c .before .passed2 .ensures .0) (c .changed3 .result) (c .changed3 .ensures)
 
 returns-6 : tie.Need-returns-6
 unfolding weight-of fixed-weights
 returns-6 c =
     let p = c .before .before .before .before .before .before .before in
-    let a = start-of (found-of p) .args in
-    change-store (a .t1) (a .memory .now) (a .modes .now) (a .order .now) (a .left) (a .own) (a .task) (place-at (found-of p)) (weight-at p) (p .plan-of .result) (there p)
+    let a = start-of (found-of (p .before)) .args in
+    change-store (a .t1) (a .memory .now) (a .modes .now) (a .order .now) (a .left) (a .own) (a .task) (place-at (found-of (p .before))) (weight-at p) (p .before .plan-of .result) (there p)
     (c .before .before .before .before .before .plan5 .given .0 .0) (c .before .before .before .before .before .plan5 .given .0 .1 .0) (c .before .before .before .before .before .plan5 .given .1) (c .before .before .before .passed3 .result) (c .before .before .before .passed3 .ensures .0) (c .before .store .last .0) (c .before .store .ensures)
     (c .changed4 .result) (c .changed4 .ensures)
 
@@ -250,9 +260,10 @@ returns-7 : tie.Need-returns-7
 unfolding weight-of fixed-weights
 returns-7 c =
     let p = c .before .before .before .before .before .before in
-    let a = start-of (found-of p) .args in
-    change-spawn (a .t1) (a .memory .now) (a .modes .now) (a .order .now) (a .left) (a .own) (a .task) (place-at (found-of p)) (weight-at p) (p .plan-of .result) (there p)
-    (c .before .before .before .before .plan6 .given .0 .0) (c .before .before .before .before .plan6 .given .0 .1 .0) (c .before .before .before .before .plan6 .given .1) (c .spawned .last .1 .0) (c .spawned .last .1 .1 .0) (c .spawned .result) (c .spawned .ensures)
+    let a = start-of (found-of (p .before)) .args in
+    change-spawn (a .t1) (a .memory .now) (a .modes .now) (a .order .now) (a .left) (a .own) (a .task) (place-at (found-of (p .before))) (weight-at p) (p .before .plan-of .result) (there p)
+    (c .before .before .before .before .plan6 .given .0 .0) (c .before .before .before .before .plan6 .given .0 .1 .0)
+    (c .before .before .before .before .plan6 .given .0 .1 .1 .0) (c .before .before .before .before .plan6 .given .0 .1 .1 .1 .0) (c .before .before .before .before .plan6 .given .1) (c .spawned .last .1 .0) (c .spawned .last .1 .1 .0) (c .spawned .result) (c .spawned .ensures)
 
 pub step-change-spec : {M : Type 1} → statement M
 step-change-spec =
@@ -271,9 +282,11 @@ step-change-spec =
     element-copy-out-cell
     code-of-requires
     plan-of-requires
+    units-of-requires
     add-weight
     mul-weight
     array-read-weight
+    mul-weight-2
     enum-known-plan
     unchanged-requires-2
     enum-known-plan-2

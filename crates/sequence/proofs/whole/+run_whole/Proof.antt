@@ -1,4 +1,4 @@
-use Prim.Native.Nat.{ℕ, _+_, _-_, _≤_, _<_}
+use Prim.Native.Nat.{ℕ, _+_, _-_, _<_}
 use mathlib.Core.Path.{_≡_, refl, subst, _∙_}
 use denote.Ref.{now}
 use native.Mathlib.Omega.{arith}
@@ -12,7 +12,7 @@ use Rattle.runtime.specs.View.{model, context-of, SoundRun}
 use Rattle.runtime.specs.Parts.{record-of}
 use Rattle.runtime.proofs.ChangeLaws.{ends}
 use Rattle.sequence.specs.Replays.{joined}
-use Rattle.sequence.proofs.SequentialLaws.{onward, with-records, start-joined, step-joined, makes-joined, end-joined, Writing, writing-all, writing-one, writing-done, enough-steps, StepsLeft, steps-all, EachLeft, each-all, each-one, turn-ended, turn-taken, whole-none, whole-spent}
+use Rattle.sequence.proofs.SequentialLaws.{onward, start-joined, step-joined, makes-joined, end-joined, Writing, writing-all, writing-one, writing-done, enough-steps, StepsLeft, steps-all, EachLeft, each-all, each-one, turn-ended, turn-taken, whole-none, whole-spent}
 use borrow.Author.Needs.{needs}
 use borrow.Fn.Kinds.{In}
 use borrow.Fn.PlainCycle.{Measures, is, falls, and}
@@ -60,7 +60,6 @@ run-whole-Inv-loop memory₀ modes₀ order₀ task bodies tables p₀ size step
 abbrev run-whole-μ-loop : run-whole-lts.MeasureT-loop
 run-whole-μ-loop memory₀ modes₀ order₀ task bodies tables p₀ size steps₀ memory modes order p steps = steps
 
--- src/whole.rt:28:9
 run-whole-returns : (t : ℕ) → run-whole-lts.Need-returns (
   row-size-reads.Asked,
   row-size-reads.Learnt,
@@ -91,7 +90,6 @@ run-whole-returns t c =
     let a = c .before .args in
     whole-none (a .bodies) (a .task) (joined (a .t1) (a .progress) (now (a .memory)) (now (a .modes)) (now (a .order))) (c .if1 .taken)
 
--- src/whole.rt:30:15
 run-whole-mul-own : (t : ℕ) → run-whole-lts.Need-mul-own (
   row-size-reads.Asked,
   row-size-reads.Learnt,
@@ -120,7 +118,6 @@ run-whole-mul-own : (t : ℕ) → run-whole-lts.Need-mul-own (
     run-whole-μ-loop
 run-whole-mul-own t c = search needs
 
--- src/whole.rt:30:15
 run-whole-element-copy-out-own : (t : ℕ) → run-whole-lts.Need-element-copy-out-own (
   row-size-reads.Asked,
   row-size-reads.Learnt,
@@ -149,7 +146,6 @@ run-whole-element-copy-out-own : (t : ℕ) → run-whole-lts.Need-element-copy-o
     run-whole-μ-loop
 run-whole-element-copy-out-own t c = search needs
 
--- src/whole.rt:31:68
 run-whole-cast-row-size : (t : ℕ) → run-whole-lts.Need-cast-row-size (
   row-size-reads.Asked,
   row-size-reads.Learnt,
@@ -178,7 +174,6 @@ run-whole-cast-row-size : (t : ℕ) → run-whole-lts.Need-cast-row-size (
     run-whole-μ-loop
 run-whole-cast-row-size t c = search needs
 
--- src/whole.rt:31:9
 run-whole-row-size-requires : (t : ℕ) → run-whole-lts.Need-row-size-requires (
   row-size-reads.Asked,
   row-size-reads.Learnt,
@@ -207,7 +202,6 @@ run-whole-row-size-requires : (t : ℕ) → run-whole-lts.Need-row-size-requires
     run-whole-μ-loop
 run-whole-row-size-requires t c κs = search needs
 
--- src/whole.rt:32:67
 run-whole-cast-start-change : (t : ℕ) → run-whole-lts.Need-cast-start-change (
   row-size-reads.Asked,
   row-size-reads.Learnt,
@@ -236,7 +230,6 @@ run-whole-cast-start-change : (t : ℕ) → run-whole-lts.Need-cast-start-change
     run-whole-μ-loop
 run-whole-cast-start-change t c = search needs
 
--- src/whole.rt:32:9
 run-whole-start-change-requires : (t : ℕ) → run-whole-lts.Need-start-change-requires (
   row-size-reads.Asked,
   row-size-reads.Learnt,
@@ -265,7 +258,6 @@ run-whole-start-change-requires : (t : ℕ) → run-whole-lts.Need-start-change-
     run-whole-μ-loop
 run-whole-start-change-requires t c κs = search needs
 
--- src/whole.rt:34:5
 run-whole-mul-next : (t : ℕ) → run-whole-lts.Need-mul-next (
   row-size-reads.Asked,
   row-size-reads.Learnt,
@@ -294,7 +286,6 @@ run-whole-mul-next : (t : ℕ) → run-whole-lts.Need-mul-next (
     run-whole-μ-loop
 run-whole-mul-next t c = search needs
 
--- src/whole.rt:34:5
 run-whole-element-set-from-next : (t : ℕ) → run-whole-lts.Need-element-set-from-next (
   row-size-reads.Asked,
   row-size-reads.Learnt,
@@ -323,7 +314,6 @@ run-whole-element-set-from-next : (t : ℕ) → run-whole-lts.Need-element-set-f
     run-whole-μ-loop
 run-whole-element-set-from-next t c = search needs
 
--- src/whole.rt:36:15
 run-whole-wrapping-add-u32-requires : (t : ℕ) → run-whole-lts.Need-wrapping-add-u32-requires (
   row-size-reads.Asked,
   row-size-reads.Learnt,
@@ -352,7 +342,6 @@ run-whole-wrapping-add-u32-requires : (t : ℕ) → run-whole-lts.Need-wrapping-
     run-whole-μ-loop
 run-whole-wrapping-add-u32-requires t c κs = search needs
 
--- src/whole.rt:37:16
 run-whole-wrapping-add-u32-requires-2 : (t : ℕ) → run-whole-lts.Need-wrapping-add-u32-requires-2 (
   row-size-reads.Asked,
   row-size-reads.Learnt,
@@ -381,7 +370,6 @@ run-whole-wrapping-add-u32-requires-2 : (t : ℕ) → run-whole-lts.Need-wrappin
     run-whole-μ-loop
 run-whole-wrapping-add-u32-requires-2 t c κs = search needs
 
--- src/whole.rt:39:21
 run-whole-add-steps : (t : ℕ) → run-whole-lts.Need-add-steps (
   row-size-reads.Asked,
   row-size-reads.Learnt,
@@ -410,7 +398,6 @@ run-whole-add-steps : (t : ℕ) → run-whole-lts.Need-add-steps (
     run-whole-μ-loop
 run-whole-add-steps t c = omega (arith, c .before .before .before .before .before .before .row-size .ensures .1)
 
--- src/whole.rt:40:5
 run-whole-loop-holds : (t : ℕ) → run-whole-lts.Need-loop-holds (
   row-size-reads.Asked,
   row-size-reads.Learnt,
@@ -441,7 +428,6 @@ run-whole-loop-holds t c =
     let a = c .before .before .before .before .before .before .before .before .before .before .before .before .args in
     steps-all (a .bodies) (a .task) _ _
 
--- src/whole.rt:41:19
 run-whole-mul-own-2 : (t : ℕ) → run-whole-lts.Need-mul-own-2 (
   row-size-reads.Asked,
   row-size-reads.Learnt,
@@ -470,7 +456,6 @@ run-whole-mul-own-2 : (t : ℕ) → run-whole-lts.Need-mul-own-2 (
     run-whole-μ-loop
 run-whole-mul-own-2 t c = search needs
 
--- src/whole.rt:41:19
 run-whole-element-copy-out-own-2 : (t : ℕ) → run-whole-lts.Need-element-copy-out-own-2 (
   row-size-reads.Asked,
   row-size-reads.Learnt,
@@ -499,7 +484,6 @@ run-whole-element-copy-out-own-2 : (t : ℕ) → run-whole-lts.Need-element-copy
     run-whole-μ-loop
 run-whole-element-copy-out-own-2 t c = search needs
 
--- src/whole.rt:42:72
 run-whole-cast-row-size-2 : (t : ℕ) → run-whole-lts.Need-cast-row-size-2 (
   row-size-reads.Asked,
   row-size-reads.Learnt,
@@ -528,7 +512,6 @@ run-whole-cast-row-size-2 : (t : ℕ) → run-whole-lts.Need-cast-row-size-2 (
     run-whole-μ-loop
 run-whole-cast-row-size-2 t c = search needs
 
--- src/whole.rt:42:13
 run-whole-row-size-requires-2 : (t : ℕ) → run-whole-lts.Need-row-size-requires-2 (
   row-size-reads.Asked,
   row-size-reads.Learnt,
@@ -557,7 +540,6 @@ run-whole-row-size-requires-2 : (t : ℕ) → run-whole-lts.Need-row-size-requir
     run-whole-μ-loop
 run-whole-row-size-requires-2 t c κs = search needs
 
--- src/whole.rt:43:12
 run-whole-at-end-requires : (t : ℕ) → run-whole-lts.Need-at-end-requires (
   row-size-reads.Asked,
   row-size-reads.Learnt,
@@ -586,7 +568,6 @@ run-whole-at-end-requires : (t : ℕ) → run-whole-lts.Need-at-end-requires (
     run-whole-μ-loop
 run-whole-at-end-requires t c κs = search needs
 
--- src/whole.rt:40:5
 run-whole-loop-less : (t : ℕ) → run-whole-lts.Need-loop-less (
   row-size-reads.Asked,
   row-size-reads.Learnt,
@@ -615,7 +596,6 @@ run-whole-loop-less : (t : ℕ) → run-whole-lts.Need-loop-less (
     run-whole-μ-loop
 run-whole-loop-less t c = omega (arith, c .before .before .before .before .before .before .before .loop-test .taken)
 
--- src/whole.rt:40:5
 run-whole-loop-again : (t : ℕ) → run-whole-lts.Need-loop-again (
   row-size-reads.Asked,
   row-size-reads.Learnt,
@@ -663,7 +643,6 @@ run-whole-loop-again t c =
     λ s. at .ensures ∙ ends r (a .task) (size2 .result) (record-of r (a .task)) (c .before .before .before .before .before .before .before .before .before .before .before .before .before .before .before .before .before .before .before .before .before .pre .1) refl (size2 .ensures .0 ∙ body-size-is (a .t1) (record-of r (a .task) .body) sizes cells) s in
     turn-ended (a .bodies) (a .task) limit from (l .steps) r (l .inv) (at .result) there (c .if2 .taken)
 
--- src/whole.rt:47:86
 run-whole-cast-step-change : (t : ℕ) → run-whole-lts.Need-cast-step-change (
   row-size-reads.Asked,
   row-size-reads.Learnt,
@@ -692,7 +671,6 @@ run-whole-cast-step-change : (t : ℕ) → run-whole-lts.Need-cast-step-change (
     run-whole-μ-loop
 run-whole-cast-step-change t c = omega (arith, c .before .before .before .before .before .before .before .before .before .before .before .before .before .before .before .before .before .before .before .before .before .before .before .before .pre .1)
 
--- src/whole.rt:47:13
 run-whole-step-change-requires : (t : ℕ) → run-whole-lts.Need-step-change-requires (
   row-size-reads.Asked,
   row-size-reads.Learnt,
@@ -721,7 +699,6 @@ run-whole-step-change-requires : (t : ℕ) → run-whole-lts.Need-step-change-re
     run-whole-μ-loop
 run-whole-step-change-requires t c κs = search needs
 
--- src/whole.rt:49:9
 run-whole-mul-next-2 : (t : ℕ) → run-whole-lts.Need-mul-next-2 (
   row-size-reads.Asked,
   row-size-reads.Learnt,
@@ -750,7 +727,6 @@ run-whole-mul-next-2 : (t : ℕ) → run-whole-lts.Need-mul-next-2 (
     run-whole-μ-loop
 run-whole-mul-next-2 t c = omega (arith, c .before .before .before .before .before .before .before .before .before .before .before .before .before .before .before .before .before .before .before .before .before .before .before .before .before .before .pre .1)
 
--- src/whole.rt:49:9
 run-whole-element-set-from-next-2 : (t : ℕ) → run-whole-lts.Need-element-set-from-next-2 (
   row-size-reads.Asked,
   row-size-reads.Learnt,
@@ -779,7 +755,6 @@ run-whole-element-set-from-next-2 : (t : ℕ) → run-whole-lts.Need-element-set
     run-whole-μ-loop
 run-whole-element-set-from-next-2 t c = omega (arith, c .before .before .before .before .before .before .before .before .before .before .before .before .before .before .before .before .before .before .before .before .before .before .before .before .before .before .pre .1)
 
--- src/whole.rt:51:19
 run-whole-wrapping-add-u32-requires-3 : (t : ℕ) → run-whole-lts.Need-wrapping-add-u32-requires-3 (
   row-size-reads.Asked,
   row-size-reads.Learnt,
@@ -808,7 +783,6 @@ run-whole-wrapping-add-u32-requires-3 : (t : ℕ) → run-whole-lts.Need-wrappin
     run-whole-μ-loop
 run-whole-wrapping-add-u32-requires-3 t c κs = search needs
 
--- src/whole.rt:52:20
 run-whole-wrapping-add-u32-requires-4 : (t : ℕ) → run-whole-lts.Need-wrapping-add-u32-requires-4 (
   row-size-reads.Asked,
   row-size-reads.Learnt,
@@ -837,7 +811,6 @@ run-whole-wrapping-add-u32-requires-4 : (t : ℕ) → run-whole-lts.Need-wrappin
     run-whole-μ-loop
 run-whole-wrapping-add-u32-requires-4 t c κs = search needs
 
--- src/whole.rt:53:9
 run-whole-sub-steps : (t : ℕ) → run-whole-lts.Need-sub-steps (
   row-size-reads.Asked,
   row-size-reads.Learnt,
@@ -866,7 +839,6 @@ run-whole-sub-steps : (t : ℕ) → run-whole-lts.Need-sub-steps (
     run-whole-μ-loop
 run-whole-sub-steps t c = omega arith
 
--- src/whole.rt:60:9
 run-whole-loop2-holds : (t : ℕ) → run-whole-lts.Need-loop2-holds (
   row-size-reads.Asked,
   row-size-reads.Learnt,
@@ -893,9 +865,8 @@ run-whole-loop2-holds : (t : ℕ) → run-whole-lts.Need-loop2-holds (
     run-whole-μ-loop3
     run-whole-Inv-loop
     run-whole-μ-loop
-run-whole-loop2-holds t c = search needs
+run-whole-loop2-holds t c = writing-all _ _ _ _ _
 
--- src/whole.rt:61:13
 run-whole-sub-i : (t : ℕ) → run-whole-lts.Need-sub-i (
   row-size-reads.Asked,
   row-size-reads.Learnt,
@@ -924,7 +895,6 @@ run-whole-sub-i : (t : ℕ) → run-whole-lts.Need-sub-i (
     run-whole-μ-loop
 run-whole-sub-i t c = search needs
 
--- src/whole.rt:62:52
 run-whole-cast-child-record : (t : ℕ) → run-whole-lts.Need-cast-child-record (
   row-size-reads.Asked,
   row-size-reads.Learnt,
@@ -953,7 +923,6 @@ run-whole-cast-child-record : (t : ℕ) → run-whole-lts.Need-cast-child-record
     run-whole-μ-loop
 run-whole-cast-child-record t c = search needs
 
--- src/whole.rt:62:17
 run-whole-child-record-requires : (t : ℕ) → run-whole-lts.Need-child-record-requires (
   row-size-reads.Asked,
   row-size-reads.Learnt,
@@ -982,7 +951,6 @@ run-whole-child-record-requires : (t : ℕ) → run-whole-lts.Need-child-record-
     run-whole-μ-loop
 run-whole-child-record-requires t c κs = search needs
 
--- src/whole.rt:63:31
 run-whole-mul-born : (t : ℕ) → run-whole-lts.Need-mul-born (
   row-size-reads.Asked,
   row-size-reads.Learnt,
@@ -1011,7 +979,6 @@ run-whole-mul-born : (t : ℕ) → run-whole-lts.Need-mul-born (
     run-whole-μ-loop
 run-whole-mul-born t c = omega (arith, c .before .before .before .before .before .before .before .step-change .ensures .0 .near (c .before .before .loop2 .i - 1) (omega (arith, c .before .loop2-test .taken, c .before .before .loop2 .inv .children-left .within)))
 
--- src/whole.rt:63:23
 run-whole-add-born : (t : ℕ) → run-whole-lts.Need-add-born (
   row-size-reads.Asked,
   row-size-reads.Learnt,
@@ -1040,7 +1007,6 @@ run-whole-add-born : (t : ℕ) → run-whole-lts.Need-add-born (
     run-whole-μ-loop
 run-whole-add-born t c = omega (arith, c .before .before .before .before .before .before .before .step-change .ensures .0 .near (c .before .before .loop2 .i - 1) (omega (arith, c .before .loop2-test .taken, c .before .before .loop2 .inv .children-left .within)))
 
--- src/whole.rt:63:13
 run-whole-mul-born-2 : (t : ℕ) → run-whole-lts.Need-mul-born-2 (
   row-size-reads.Asked,
   row-size-reads.Learnt,
@@ -1069,7 +1035,6 @@ run-whole-mul-born-2 : (t : ℕ) → run-whole-lts.Need-mul-born-2 (
     run-whole-μ-loop
 run-whole-mul-born-2 t c = omega (arith, c .before .before .before .before .before .before .before .step-change .ensures .0 .near (c .before .before .loop2 .i - 1) (omega (arith, c .before .loop2-test .taken, c .before .before .loop2 .inv .children-left .within)))
 
--- src/whole.rt:63:13
 run-whole-element-set-from-born : (t : ℕ) → run-whole-lts.Need-element-set-from-born (
   row-size-reads.Asked,
   row-size-reads.Learnt,
@@ -1098,7 +1063,6 @@ run-whole-element-set-from-born : (t : ℕ) → run-whole-lts.Need-element-set-f
     run-whole-μ-loop
 run-whole-element-set-from-born t c = c .before .before .before .before .before .before .before .step-change .ensures .0 .near (c .before .before .loop2 .i - 1) (omega (arith, c .before .loop2-test .taken, c .before .before .loop2 .inv .children-left .within))
 
--- src/whole.rt:60:9
 run-whole-loop2-less : (t : ℕ) → run-whole-lts.Need-loop2-less (
   row-size-reads.Asked,
   row-size-reads.Learnt,
@@ -1127,7 +1091,6 @@ run-whole-loop2-less : (t : ℕ) → run-whole-lts.Need-loop2-less (
     run-whole-μ-loop
 run-whole-loop2-less t c = search needs
 
--- src/whole.rt:60:9
 run-whole-loop2-again : (t : ℕ) → run-whole-lts.Need-loop2-again (
   row-size-reads.Asked,
   row-size-reads.Learnt,
@@ -1160,7 +1123,6 @@ run-whole-loop2-again t c =
     writing-one (change .child) (change .apart) (change .made) (change .children) _ (l .i) (l .p) (c .before .loop2-test .taken) (l .inv)
     (c .child-record .result) (c .child-record .ensures)
 
--- src/whole.rt:67:9
 run-whole-loop3-holds : (t : ℕ) → run-whole-lts.Need-loop3-holds (
   row-size-reads.Asked,
   row-size-reads.Learnt,
@@ -1191,7 +1153,6 @@ run-whole-loop3-holds t c =
     let change = c .before .before .before .before .before .before .step-change .result in
     each-all (c .before .before .before .before .before .before .before .before .before .before .before .before .before .before .before .before .before .before .before .before .before .before .before .before .before .before .before .before .before .before .before .args .bodies) (change .child) (change .apart) (change .children) _
 
--- src/whole.rt:40:5
 run-whole-loop-less-2 : (t : ℕ) → run-whole-lts.Need-loop-less-2 (
   row-size-reads.Asked,
   row-size-reads.Learnt,
@@ -1220,7 +1181,6 @@ run-whole-loop-less-2 : (t : ℕ) → run-whole-lts.Need-loop-less-2 (
     run-whole-μ-loop
 run-whole-loop-less-2 t c = omega (arith, c .before .before .before .before .before .before .before .before .before .before .before .before .before .before .before .before .before .before .before .loop-test .taken)
 
--- src/whole.rt:40:5
 run-whole-loop-again-2 : (t : ℕ) → run-whole-lts.Need-loop-again-2 (
   row-size-reads.Asked,
   row-size-reads.Learnt,
@@ -1279,7 +1239,6 @@ run-whole-loop-again-2 t c =
     (makes-joined (a .t1) (l .p) (l .memory) (l .modes) (l .order) (a .task) step (calls2 .result) (weight2 .result) (calls2 .ensures) (weight2 .ensures) m ms o (stepping .ensures))
     (l3 .j) (joined (a .t1) (l3 .p) (l3 .memory) (l3 .modes) (l3 .order)) (c .loop3-test .left) (l3 .inv)
 
--- src/whole.rt:74:25
 run-whole-mul-run-whole : (t : ℕ) → run-whole-lts.Need-mul-run-whole (
   row-size-reads.Asked,
   row-size-reads.Learnt,
@@ -1308,7 +1267,6 @@ run-whole-mul-run-whole : (t : ℕ) → run-whole-lts.Need-mul-run-whole (
     run-whole-μ-loop
 run-whole-mul-run-whole t c = omega (arith, c .before .before .before .before .before .before .before .before .before .before .before .step-change .ensures .0 .near (c .before .before .before .before .loop3 .j) (c .before .before .before .loop3-test .taken))
 
--- src/whole.rt:74:17
 run-whole-add-run-whole : (t : ℕ) → run-whole-lts.Need-add-run-whole (
   row-size-reads.Asked,
   row-size-reads.Learnt,
@@ -1337,7 +1295,6 @@ run-whole-add-run-whole : (t : ℕ) → run-whole-lts.Need-add-run-whole (
     run-whole-μ-loop
 run-whole-add-run-whole t c = omega (arith, c .before .before .before .before .before .before .before .before .before .before .before .step-change .ensures .0 .near (c .before .before .before .before .loop3 .j) (c .before .before .before .loop3-test .taken))
 
--- src/whole.rt:75:17
 run-whole-sub-run-whole : (t : ℕ) → run-whole-lts.Need-sub-run-whole (
   row-size-reads.Asked,
   row-size-reads.Learnt,
@@ -1366,7 +1323,6 @@ run-whole-sub-run-whole : (t : ℕ) → run-whole-lts.Need-sub-run-whole (
     run-whole-μ-loop
 run-whole-sub-run-whole t c = pos-of-ne-zero (c .before .before .before .before .before .before .before .before .before .before .before .before .before .before .before .before .before .before .before .before .before .before .before .before .before .before .before .before .before .before .before .before .before .before .before .if1 .left)
 
--- src/whole.rt:68:17
 run-whole-run-whole-requires : (t : ℕ) → run-whole-lts.Need-run-whole-requires (
   row-size-reads.Asked,
   row-size-reads.Learnt,
@@ -1400,7 +1356,6 @@ run-whole-run-whole-requires t c κs =
       c .before .before .before .before .before .before .before .before .before .before .before .step-change .ensures .0 .near (c .before .before .before .before .loop3 .j) (c .before .before .before .loop3-test .taken),
     )
 
--- src/whole.rt:77:13
 run-whole-add-j : (t : ℕ) → run-whole-lts.Need-add-j (
   row-size-reads.Asked,
   row-size-reads.Learnt,
@@ -1429,7 +1384,6 @@ run-whole-add-j : (t : ℕ) → run-whole-lts.Need-add-j (
     run-whole-μ-loop
 run-whole-add-j t c = search needs
 
--- src/whole.rt:67:9
 run-whole-loop3-less : (t : ℕ) → run-whole-lts.Need-loop3-less (
   row-size-reads.Asked,
   row-size-reads.Learnt,
@@ -1458,7 +1412,6 @@ run-whole-loop3-less : (t : ℕ) → run-whole-lts.Need-loop3-less (
     run-whole-μ-loop
 run-whole-loop3-less t c = search needs
 
--- src/whole.rt:67:9
 run-whole-loop3-again : (t : ℕ) → run-whole-lts.Need-loop3-again (
   row-size-reads.Asked,
   row-size-reads.Learnt,
@@ -1494,7 +1447,6 @@ run-whole-loop3-again t c =
     each-one (a .bodies) (change .child) (change .apart) (change .children) _ (l .j) r (c .before .before .before .before .loop3-test .taken) (l .inv)
     (joined (a .t1) (whole .result) (whole .last .1 .1 .0) (whole .last .1 .1 .1 .0) (whole .last .1 .1 .1 .1 .0)) (whole .ensures)
 
--- src/whole.rt:80:15
 run-whole-mul-own-3 : (t : ℕ) → run-whole-lts.Need-mul-own-3 (
   row-size-reads.Asked,
   row-size-reads.Learnt,
@@ -1523,7 +1475,6 @@ run-whole-mul-own-3 : (t : ℕ) → run-whole-lts.Need-mul-own-3 (
     run-whole-μ-loop
 run-whole-mul-own-3 t c = search needs
 
--- src/whole.rt:80:15
 run-whole-element-copy-out-own-3 : (t : ℕ) → run-whole-lts.Need-element-copy-out-own-3 (
   row-size-reads.Asked,
   row-size-reads.Learnt,
@@ -1552,7 +1503,6 @@ run-whole-element-copy-out-own-3 : (t : ℕ) → run-whole-lts.Need-element-copy
     run-whole-μ-loop
 run-whole-element-copy-out-own-3 t c = search needs
 
--- src/whole.rt:81:68
 run-whole-cast-row-size-3 : (t : ℕ) → run-whole-lts.Need-cast-row-size-3 (
   row-size-reads.Asked,
   row-size-reads.Learnt,
@@ -1581,7 +1531,6 @@ run-whole-cast-row-size-3 : (t : ℕ) → run-whole-lts.Need-cast-row-size-3 (
     run-whole-μ-loop
 run-whole-cast-row-size-3 t c = search needs
 
--- src/whole.rt:81:9
 run-whole-row-size-requires-3 : (t : ℕ) → run-whole-lts.Need-row-size-requires-3 (
   row-size-reads.Asked,
   row-size-reads.Learnt,
@@ -1610,7 +1559,6 @@ run-whole-row-size-requires-3 : (t : ℕ) → run-whole-lts.Need-row-size-requir
     run-whole-μ-loop
 run-whole-row-size-requires-3 t c κs = search needs
 
--- src/whole.rt:82:64
 run-whole-cast-end-change : (t : ℕ) → run-whole-lts.Need-cast-end-change (
   row-size-reads.Asked,
   row-size-reads.Learnt,
@@ -1639,7 +1587,6 @@ run-whole-cast-end-change : (t : ℕ) → run-whole-lts.Need-cast-end-change (
     run-whole-μ-loop
 run-whole-cast-end-change t c = omega (arith, c .before .before .before .before .before .before .before .before .before .before .before .before .before .before .before .before .before .before .before .before .pre .1)
 
--- src/whole.rt:82:9
 run-whole-end-change-requires : (t : ℕ) → run-whole-lts.Need-end-change-requires (
   row-size-reads.Asked,
   row-size-reads.Learnt,
@@ -1668,7 +1615,6 @@ run-whole-end-change-requires : (t : ℕ) → run-whole-lts.Need-end-change-requ
     run-whole-μ-loop
 run-whole-end-change-requires t c κs = search needs
 
--- src/whole.rt:84:5
 run-whole-mul-next-3 : (t : ℕ) → run-whole-lts.Need-mul-next-3 (
   row-size-reads.Asked,
   row-size-reads.Learnt,
@@ -1697,7 +1643,6 @@ run-whole-mul-next-3 : (t : ℕ) → run-whole-lts.Need-mul-next-3 (
     run-whole-μ-loop
 run-whole-mul-next-3 t c = omega (arith, c .before .before .before .before .before .before .before .before .before .before .before .before .before .before .before .before .before .before .before .before .before .before .pre .1)
 
--- src/whole.rt:84:5
 run-whole-element-set-from-next-3 : (t : ℕ) → run-whole-lts.Need-element-set-from-next-3 (
   row-size-reads.Asked,
   row-size-reads.Learnt,
@@ -1726,7 +1671,6 @@ run-whole-element-set-from-next-3 : (t : ℕ) → run-whole-lts.Need-element-set
     run-whole-μ-loop
 run-whole-element-set-from-next-3 t c = omega (arith, c .before .before .before .before .before .before .before .before .before .before .before .before .before .before .before .before .before .before .before .before .before .before .pre .1)
 
--- src/whole.rt:86:15
 run-whole-wrapping-add-u32-requires-5 : (t : ℕ) → run-whole-lts.Need-wrapping-add-u32-requires-5 (
   row-size-reads.Asked,
   row-size-reads.Learnt,
@@ -1755,7 +1699,6 @@ run-whole-wrapping-add-u32-requires-5 : (t : ℕ) → run-whole-lts.Need-wrappin
     run-whole-μ-loop
 run-whole-wrapping-add-u32-requires-5 t c κs = search needs
 
--- src/whole.rt:87:16
 run-whole-wrapping-add-u32-requires-6 : (t : ℕ) → run-whole-lts.Need-wrapping-add-u32-requires-6 (
   row-size-reads.Asked,
   row-size-reads.Learnt,
@@ -1784,7 +1727,6 @@ run-whole-wrapping-add-u32-requires-6 : (t : ℕ) → run-whole-lts.Need-wrappin
     run-whole-μ-loop
 run-whole-wrapping-add-u32-requires-6 t c κs = search needs
 
--- src/whole.rt:14:1
 run-whole-returns-2 : (t : ℕ) → run-whole-lts.Need-returns-2 (
   row-size-reads.Asked,
   row-size-reads.Learnt,

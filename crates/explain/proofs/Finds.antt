@@ -1,26 +1,28 @@
 -- Every number of an accepted list is found: below count(0), the task told under a number has that number.
 -- Assumes nothing.
-use Prim.Native.Nat.{ℕ, zero, suc, _+_, _-_, _≤_, _<_, zero-le}
+use Prim.Native.Nat.{ℕ, zero, suc, _+_, _-_, _*_, _≤_, _<_, zero-le}
 use mathlib.Core.Path.{_≡_, refl, sym, ap, _∙_, fun-ext, subst}
 use mathlib.Core.List.{List, [], _∷_}
 use mathlib.Core.Bool.{Bool, true, false, cond}
 use native.Mathlib.Omega.{arith}
+use native.Mathlib.Nat.{le-trans, le-of-eq, one-mul, mul-le-mul-right}
 use lib.Dec.{ltb}
 use lib.ListN.{length, take, getD, List·getD-eq-default}
 use lib.Seq.{take-length}
 use borrow.Author.Tests.{lt-ltb, ltb-true, ltb-false}
 use Rattle.tasklist.specs.declared.Instruction.{Instruction}
-use Rattle.tasklist.specs.declared.Instruction.the-variants.{Const, Add, Sub, Less, Load, Store, Skip, Spawn, Wait}
+use Rattle.tasklist.specs.declared.Instruction.the-variants.{Const, Add, Sub, Less, Load, Store, Skip, Spawn, Wait, Fan}
 use Rattle.tasklist.specs.declared.Tables.{Tables}
 use Rattle.tasklist.specs.TaskList.{TaskList, body-of, instruction-of, blank-instruction, total, adds, count-body, task-count}
 use Rattle.tasklist.specs.Tables.{list-of, capped, Holds}
 use Rattle.tasklist.specs.Accepted.{Accepted}
-use Rattle.tasklist.proofs.Guarantees.{spawn-names}
+use Rattle.tasklist.proofs.Guarantees.{spawn-names, fan-names}
+use Rattle.tasklist.proofs.CountLaws.{total-capped}
 use Rattle.explain.specs.declared.Job.{Job}
 use Rattle.explain.specs.Search.{first-from}
-use Rattle.explain.specs.Jobs.{first-job, number-at, made, place-of, holder, down, numbered}
+use Rattle.explain.specs.Jobs.{first-job, number-at, fanned, made, place-of, holder, down, numbered}
 use Rattle.explain.proofs.FirstLaws.{first-keeps, Passes, first-passes}
-use Rattle.explain.proofs.JobLaws.{total-more}
+use Rattle.explain.proofs.JobLaws.{total-more, child-block}
 
 -- sums of parts
 total-part : (f : Instruction → ℕ) (xs : List Instruction) (i : ℕ) → total f (take i xs) ≤ total f xs
@@ -29,26 +31,6 @@ total-part f [] zero = omega arith
 total-part f [] (suc i) = omega arith
 total-part f (x ∷ xs) zero = omega arith
 total-part f (x ∷ xs) (suc i) = omega (arith, total-part f xs i)
-
--- counts capped at 129 add up to the same, where the sum is no more
-adds-capped : (f : ℕ → ℕ) (x : Instruction) → adds (λ a. capped (f a)) x ≡ capped (adds f x)
-unfolding adds
-adds-capped f (Const a v) = refl
-adds-capped f (Add a b c) = refl
-adds-capped f (Sub a b c) = refl
-adds-capped f (Less a b c) = refl
-adds-capped f (Load a b) = refl
-adds-capped f (Store a b) = refl
-adds-capped f (Skip a b) = refl
-adds-capped f (Spawn a b) = refl
-adds-capped f (Wait a) = refl
-
-total-capped : (f : ℕ → ℕ) (xs : List Instruction) → total (adds f) xs ≤ 129 → total (adds (λ a. capped (f a))) xs ≡ total (adds f) xs
-unfolding total
-total-capped f [] h = refl
-total-capped f (x ∷ xs) h =
-    let small : adds f x + total (adds f) xs ≤ 129 = h in
-    omega (arith, adds-capped f x, total-capped f xs (omega arith))
 
 module _ (t : Tables) (l : TaskList) (holds : Holds t l) (ok : Accepted l) (k : ℕ) where
   abbrev count : ℕ → ℕ
@@ -90,10 +72,14 @@ module _ (t : Tables) (l : TaskList) (holds : Holds t l) (ok : Accepted l) (k : 
   unfolding plain instruction-of
   plain-more j i h = omega (arith, total-more (adds count) (body-of l (j .body)) i blank-instruction h)
 
+  some-task : (s : ℕ) → 0 < count s
+  unfolding count-body
+  some-task s = omega (arith, ok .count-law s)
+
   -- the child at the place whose block holds k
   child : (levels d : ℕ) (j : Job) (r : ℕ) (x : Instruction) → Holding (suc levels) j → r < length (body-of l (j .body)) → plain j r ≤ k → k < plain j (suc r)
-      → instruction-of l (j .body) r ≡ x → plain j (suc r) ≡ plain j r + adds count x → Holding levels (made j r (plain j r) d x)
-  unfolding made adds
+      → instruction-of l (j .body) r ≡ x → plain j (suc r) ≡ plain j r + adds count x → Holding levels (made t j r (plain j r) k d x)
+  unfolding made fanned adds
   child levels d j r (Const a v) h here low high q more = let z : ⊥ = omega arith in absurd z
   child levels d j r (Add a b c) h here low high q more = let z : ⊥ = omega arith in absurd z
   child levels d j r (Sub a b c) h here low high q more = let z : ⊥ = omega arith in absurd z
@@ -109,6 +95,21 @@ module _ (t : Tables) (l : TaskList) (holds : Holds t l) (ok : Accepted l) (k : 
         high = omega (arith, high, more);
         fits = omega (arith, more, within j (suc r), h .fits);
         near = omega (arith, names .above, h .near);
+      }
+  child levels d j r (Fan a b c) h here low high q more =
+      let names = fan-names l ok (j .body) r here a b c q in
+      let n : ℕ = plain j r in
+      let inside : n + c * count a ≤ 128 = omega (arith, more, within j (suc r), h .fits) in
+      let few : count a ≤ c * count a = le-trans (le-of-eq (sym (one-mul (count a)))) (mul-le-mul-right (count a) (names .some-child)) in
+      let w : ℕ = getD (t .counts) a 1 in
+      let same : w ≡ count a = omega (arith, holds .counts a, few, inside) in
+      let some : 0 < w = omega (arith, same, some-task a) in
+      let p = child-block n k c w some low (omega (arith, high, more, ap (λ (m : ℕ). c * m) same)) in
+      record {
+        low = p .low;
+        high = omega (arith, p .high, same);
+        fits = omega (arith, p .fits, same, inside, ap (λ (m : ℕ). c * m) same);
+        near = omega (arith, names .names .above, h .near);
       }
 
   plain-none : (j : Job) → plain j 0 ≡ j .number + 1
@@ -136,11 +137,11 @@ module _ (t : Tables) (l : TaskList) (holds : Holds t l) (ok : Accepted l) (k : 
       let low : number-at t j r ≤ k = first-keeps test (λ i. number-at t j i ≤ k) (λ i e. ltb-false k (number-at t j (suc i)) e) 0 size first-low in
       let high : k < number-at t j (suc r) = ltb-true k (number-at t j (suc r)) (p .passes) in
       let here : r < length (body-of l (j .body)) = omega (arith, p .inside, same-size) in
-      let made-here : Holding levels (made j r (plain j r) d (instruction-of l (j .body) r)) =
+      let made-here : Holding levels (made t j r (plain j r) k d (instruction-of l (j .body) r)) =
       child levels d j r (instruction-of l (j .body) r) h here (omega (arith, low, same-number j r (h .fits))) (omega (arith, high, same-number j (suc r) (h .fits))) refl
       (plain-more j r here) in
-      subst (Holding levels) (sym (ap (λ n. made j r n d (instruction-of (list-of t) (j .body) r)) (same-number j r (h .fits)) ∙
-      ap (λ m. made j r (plain j r) d (instruction-of m (j .body) r)) (holds .list))) made-here
+      subst (Holding levels) (sym (ap (λ n. made t j r n k d (instruction-of (list-of t) (j .body) r)) (same-number j r (h .fits)) ∙
+      ap (λ m. made t j r (plain j r) k d (instruction-of m (j .body) r)) (holds .list))) made-here
 
   -- a body past the last has one task
   alone : (s : ℕ) → 32 ≤ s → count s ≡ 1

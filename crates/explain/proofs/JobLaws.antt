@@ -1,11 +1,12 @@
 -- Laws of the tasks' numbers: one instruction more, the child whose block holds a number, one level further down.
 -- Assumes nothing.
-use Prim.Native.Nat.{ℕ, zero, suc, _+_, _-_, _≤_, _<_}
+use Prim.Native.Nat.{ℕ, zero, suc, _+_, _-_, _*_, _/_, _%_, _≤_, _<_}
 use mathlib.Core.Path.{_≡_, refl, sym, ap, _∙_}
 use mathlib.Core.List.{List, [], _∷_}
 use mathlib.Core.Bool.{Bool, true, false, cond}
 use native.Mathlib.Omega.{arith}
 use native.Mathlib.Numerals.{add-one}
+use native.Mathlib.Nat.{div-add-mod', mod-lt, div-lt-iff-lt-mul, mul-le-mul-right, suc-mul}
 use lib.Dec.{ltb}
 use lib.ListN.{length, take, getD, List·getD-eq-default}
 use borrow.Author.Tests.{lt-ltb, le-ltb}
@@ -15,7 +16,7 @@ use Rattle.tasklist.specs.TaskList.{body-of, instruction-of, blank-instruction,
 use Rattle.tasklist.specs.Tables.{list-of}
 use Rattle.explain.specs.declared.Job.{Job}
 use Rattle.explain.specs.Search.{first-from}
-use Rattle.explain.specs.Jobs.{first-job, number-at, made, place-of, holder, down, numbered}
+use Rattle.explain.specs.Jobs.{first-job, number-at, fanned, made, place-of, holder, down, numbered}
 use Rattle.explain.proofs.FirstLaws.{Failed, failed-none, failed-next, failed-passes, failed-all}
 
 -- a sum with one item more
@@ -27,6 +28,53 @@ total-more f (x ∷ xs) zero d h = omega arith
 total-more f (x ∷ xs) (suc i) d h =
     let inside : i < length xs = omega arith in
     omega (arith, total-more f xs i d inside)
+
+-- the block of the child that holds k, among c blocks of w numbers from n on
+pub record ChildBlock (n k c w : ℕ) : Type 0 where
+  pub low : n + (k - n) / w * w ≤ k
+  pub high : k < n + (k - n) / w * w + w
+  pub fits : n + (k - n) / w * w + w ≤ n + c * w
+
+pub child-block : (n k c w : ℕ) → 0 < w → n ≤ k → k < n + c * w → ChildBlock n k c w
+child-block n k c w some low high =
+    let m : ℕ = k - n in
+    let parts : m / w * w + m % w ≡ m = div-add-mod' m w in
+    let rest : m % w < w = mod-lt m some in
+    let under : m < c * w = omega arith in
+    let fewer : m / w < c = div-lt-iff-lt-mul some .1 under in
+    let above : suc (m / w) * w ≤ c * w = mul-le-mul-right w fewer in
+    record {
+      low = omega (arith, parts);
+      high = omega (arith, parts, rest);
+      fits = omega (arith, above, suc-mul (m / w) w);
+    }
+
+-- the child in the terms of the code: w numbers to a block, i blocks ahead
+pub fanned-is : (t : Tables) (k : ℕ) (j : Job) (w i : ℕ) → w ≡ getD (t .counts) (j .body) 1 → i ≡ (k - j .number) / w
+    → record {
+      number = j .number + i * w;
+      body = j .body;
+      footprint = j .footprint;
+      spawner = j .spawner;
+      place = j .place;
+      child = i;
+      children = j .children;
+      depth = j .depth;
+    } ≡ fanned t k j
+unfolding fanned
+fanned-is t k j w i p q =
+    let e : i ≡ (k - j .number) / getD (t .counts) (j .body) 1 = q ∙ ap (λ (m : ℕ). (k - j .number) / m) p in
+    λ z.
+    record {
+      number = j .number + e z * p z;
+      body = j .body;
+      footprint = j .footprint;
+      spawner = j .spawner;
+      place = j .place;
+      child = e z;
+      children = j .children;
+      depth = j .depth;
+    }
 
 -- the children of one task, of which the first i instructions end their blocks at k or below
 module _ (t : Tables) (j : Job) (k : ℕ) where
@@ -64,24 +112,24 @@ module _ (t : Tables) (j : Job) (k : ℕ) where
         failed = failed-next ends-above (length body) i h (le-ltb k (number-at t j (suc i)) (omega (arith, number, low))) (p .failed);
       }
 
-  pub passed-found : (n i v d : ℕ) (x : Instruction) (r : Job) → r ≡ made j i n d x → i < length (body-of (list-of t) (j .body)) → x ≡ instruction-of (list-of t) (j .body) i
+  pub passed-found : (n i v d : ℕ) (x : Instruction) (r : Job) → r ≡ made t j i n k d x → i < length (body-of (list-of t) (j .body)) → x ≡ instruction-of (list-of t) (j .body) i
       → v ≡ adds (λ a. getD (t .counts) a 1) x → k < n + v → Passed n i → r ≡ holder t j k d
   unfolding holder place-of
   passed-found n i v d x r made-so h q w high p =
       let more = number-more i v x h q w in
       let found : i ≡ place-of t j k = failed-passes ends-above (length body) i h (lt-ltb k (number-at t j (suc i)) (omega (arith, more, p .number, high))) (p .failed) in
       made-so ∙
-      ap (λ m. made j i m d x) (p .number) ∙
-      ap (made j i (number-at t j i) d) q ∙
-      ap (λ m. made j m (number-at t j m) d (instruction-of (list-of t) (j .body) m)) found
+      ap (λ m. made t j i m k d x) (p .number) ∙
+      ap (made t j i (number-at t j i) k d) q ∙
+      ap (λ m. made t j m (number-at t j m) k d (instruction-of (list-of t) (j .body) m)) found
 
   pub passed-all : (n i d : ℕ) → length (body-of (list-of t) (j .body)) ≤ i → Passed n i → j ≡ holder t j k d
   unfolding holder place-of made instruction-of
   passed-all n i d h p =
       let found : i ≡ place-of t j k = failed-all ends-above (length body) i h (p .failed) in
       let blank : instruction-of (list-of t) (j .body) i ≡ blank-instruction = List·getD-eq-default body blank-instruction h in
-      sym (ap (made j i (number-at t j i) d) blank) ∙
-      ap (λ m. made j m (number-at t j m) d (instruction-of (list-of t) (j .body) m)) found
+      sym (ap (made t j i (number-at t j i) k d) blank) ∙
+      ap (λ m. made t j m (number-at t j m) k d (instruction-of (list-of t) (j .body) m)) found
 
 -- from the first task down, after so many levels
 module _ (t : Tables) (k : ℕ) where

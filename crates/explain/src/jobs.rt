@@ -1,8 +1,8 @@
 // The tasks that a list can make, found by their blocks of numbers.
-ghost use Prim.Native.Nat.{_+_, _-_, _<_};
+ghost use Prim.Native.Nat.{_+_, _-_, _/_, _≤_, _<_};
 ghost use mathlib.Core.Path.{_≡_};
 ghost use lib.ListN.{getD};
-ghost use Rattle.explain.specs.Jobs.{first-job, made, holder, numbered};
+ghost use Rattle.explain.specs.Jobs.{first-job, child-of, fanned, made, holder, numbered};
 use crate::Job;
 use listing::body_size;
 use listing::instruction_at;
@@ -17,9 +17,63 @@ fn wide(x: u8) -> usize
     x as usize
 }
 
-// The task that an instruction at `place` of `job`'s body makes under a number; `job` itself where it is no spawn.
-fn made_by(job: Job, place: usize, number: usize, depth: usize, instruction: Instruction) -> Job
-    ensures { λ r. ⌜ r ≡ made job place number depth instruction ⌝ }
+// The child that a spawn at `place` of `job`'s body makes, or the first one of a fan of so many children.
+fn child_of(
+    job: Job,
+    place: usize,
+    number: usize,
+    depth: usize,
+    body: u8,
+    footprint: u8,
+    children: u8,
+) -> Job
+    ensures { λ r. ⌜ r ≡ child-of job place number depth body footprint children ⌝ }
+{
+    Job {
+        number,
+        body: body as usize,
+        footprint: footprint as usize,
+        spawner: job.number,
+        place,
+        child: 0,
+        children: children as usize,
+        depth,
+    }
+}
+
+// How many whole blocks of `count` numbers there are among `numbers`, none where the blocks are empty.
+fn blocks_in(numbers: usize, count: usize) -> usize
+    ensures { λ r. ⌜ r ≡ numbers / count ⌝ }
+{
+    if 0 < count { numbers / count } else { 0 }
+}
+
+// The child of a fan whose block holds number `k`, from the fan's first child.
+fn fanned_to(tables: Tables, k: usize, first: Job) -> Job
+    requires { ⌜ (first .number ≤ k) × (k < 128) ⌝ }
+    ensures { λ r. ⌜ r ≡ fanned tables k first ⌝ }
+{
+    let count = wide(task_count(tables, first.body));
+    let child = blocks_in(k - first.number, count);
+    let mut job = first;
+    job.number = first.number + child * count;
+    job.child = child;
+    job
+}
+
+// The task that an instruction at `place` of `job`'s body makes, whose block holds `k`, where the instruction's numbers
+// start at `number`; `job` itself where it is no spawn and no fan.
+fn made_by(
+    tables: Tables,
+    job: Job,
+    place: usize,
+    number: usize,
+    k: usize,
+    depth: usize,
+    instruction: Instruction,
+) -> Job
+    requires { ⌜ (number ≤ k) × (k < 128) ⌝ }
+    ensures { λ r. ⌜ r ≡ made tables job place number k depth instruction ⌝ }
 {
     match instruction {
         Instruction::Const {
@@ -50,15 +104,19 @@ fn made_by(job: Job, place: usize, number: usize, depth: usize, instruction: Ins
             source: _,
         } => job,
         Instruction::Skip { test: _, length: _ } => job,
-        Instruction::Spawn { body, footprint } => Job {
-            number,
-            body: body as usize,
-            footprint: footprint as usize,
-            spawner: job.number,
-            place,
-            depth,
-        },
+        Instruction::Spawn { body, footprint } => {
+            child_of(job, place, number, depth, body, footprint, 0)
+        }
         Instruction::Wait { place: _ } => job,
+        Instruction::Fan {
+            body,
+            footprint,
+            children,
+        } => fanned_to(
+            tables,
+            k,
+            child_of(job, place, number, depth, body, footprint, children),
+        ),
     }
 }
 
@@ -70,14 +128,13 @@ fn holder_of(tables: Tables, job: Job, k: usize, depth: usize) -> Job
 {
     let body = job.body;
     let size = body_size(tables, body);
-    let counts = tables.counts;
     let mut n = job.number + 1;
     let mut i = 0;
     while i < size {
         let instruction = instruction_at(tables, body, i);
-        let next = n + wide(added(instruction, counts));
+        let next = n + added(instruction, &tables.counts);
         if k < next {
-            return made_by(job, i, n, depth, instruction);
+            return made_by(tables, job, i, n, k, depth, instruction);
         }
         n = next;
         i += 1;
@@ -95,6 +152,8 @@ fn first() -> Job
         footprint: 0,
         spawner: 0,
         place: 0,
+        child: 0,
+        children: 0,
         depth: 0,
     }
 }

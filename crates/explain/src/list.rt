@@ -74,6 +74,9 @@ fn print_job(tables: Tables, n: usize)
     say_with(b", footprint ", job.footprint);
     say_with(b", made by job ", job.spawner);
     say_with(b" at place ", job.place);
+    if 0 < job.children {
+        say_with(b", child ", job.child);
+    }
     say(b"\n");
 }
 

@@ -80,6 +80,16 @@ pub fn say_instruction(instruction: Instruction) {
         Instruction::Wait { place } => {
             say_byte(b"wait entry R", place);
         }
+        Instruction::Fan {
+            body,
+            footprint,
+            children,
+        } => {
+            say_byte(b"fan sheet ", body);
+            say_byte(b" with footprint ", footprint);
+            say_byte(b", ", children);
+            say(b" children");
+        }
     }
 }
 

@@ -55,8 +55,8 @@ module _ (list library : List ℕ) (room : ℕ) where
           let weights : (place : ℕ) → weight-of (context l) place ≤ total (λ (w : ℕ). w) fixed-weights =
           λ place. unfold weight-of in at-most fixed-weights place in
           let sound =
-          sequential-sound (context l) (accepted-list list l listed) (total (λ (w : ℕ). w) fixed-weights) weights
-          (numbers-of library) (omega (arith, numbers-length library)) (numbers-small library bytes) in
+          sequential-sound (context l) (accepted-list list l listed) (16 * total (λ (w : ℕ). w) fixed-weights)
+          (λ place. omega (arith, weights place)) (numbers-of library) (omega (arith, numbers-length library)) (numbers-small library bytes) in
           bytes-length entries ∙ ap (λ n. 4 * n) (sound .locations)
 
       asked : hand-run-over-c list library room ≡ final-entries room (gives (sequential (context l) (numbers-of library)))

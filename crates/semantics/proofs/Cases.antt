@@ -5,6 +5,7 @@ use mathlib.Core.Path.{_≡_, refl}
 use mathlib.Core.List.{List, [], _∷_, _++_}
 use mathlib.Core.Bool.{true}
 use lib.ListN.{length}
+use Rattle.tasklist.specs.declared.Line.{Line}
 use Rattle.tasklist.specs.declared.Instruction.{Instruction}
 use Rattle.tasklist.specs.declared.Instruction.the-variants.{Const, Sub, Load, Store, Skip, Spawn, Fan}
 use Rattle.tasklist.specs.TaskList.{TaskList, body-of, footprint-of, instruction-of, total, adds, count-body, count-from, counts, task-count}
@@ -16,7 +17,7 @@ use Rattle.tasklist.proofs.Cases.{P}
 use Rattle.semantics.specs.Run.{no-modes, never, fixed-weights, weight-of, root-modes, root, initial}
 use Rattle.semantics.specs.Access.{every, any, only, ahead, queue, behind-writer, compatible, allowed, access-fault, reads, writes}
 use Rattle.semantics.specs.Effect.{numbered-from}
-use Rattle.semantics.specs.Footprint.{targets, all-targets, twice, first-fault, unless-denied, grant, child-modes, with-first, children, fan-of}
+use Rattle.semantics.specs.Footprint.{targets, all-targets, merged, unless-denied, grant, child-modes, with-first, children, fan-of}
 use Rattle.semantics.specs.Plan.{unless-fault, plan-load, plan-store, plan-wait, passed-over, child-number, plan-make, plan-instruction, units, step-weight, at-end, needs-from, plan-start, plan-step, plan-end, plan}
 use Rattle.semantics.specs.Call.{Call, hold, admit, settle, among, decide, edited, written, splice, stays, places, changes, apply, taken, call, after, after-all}
 use Rattle.semantics.specs.Search.{search-from, search, hold-number}
@@ -25,7 +26,7 @@ use Rattle.semantics.specs.Operations.{queue-places}
 use Rattle.semantics.specs.Answers.{outcome-number}
 use Rattle.semantics.specs.Case.{Case, by-hand, by-calls, tasks-in, refused-with, memory-is, order-is, queue-is, fault-is, registers-are, calls-are, weight-is, same, is-so, answers, has-tasks, is-refused, holds, search-is}
 
--- two locations; footprints: read 0; 0 named twice
+-- two locations; footprints: read 0; read and write 0
 abbrev small : List (List Instruction) → TaskList
 small bodies =
     record {
@@ -90,13 +91,21 @@ fanned locations k =
       bodies = (Fan 1 0 k ∷ []) ∷ (Const 1 7 ∷ Store 0 1 ∷ []) ∷ [];
     }
 
--- child 0 names location 0 twice, child 1 one beyond C
-abbrev two-faults : TaskList
-two-faults =
+-- a line of a footprint
+abbrev named : ℕ → ℕ → Line
+named kind value = record { kind = kind; value = value }
+
+-- job 0 spawns a task with these lines
+abbrev sharing : List Line → TaskList
+sharing ls = record { locations = 2; footprints = ls ∷ []; bodies = (Spawn 1 0 ∷ []) ∷ [] ∷ [] }
+
+-- a task that only reads location 0 spawns or fans out with these lines, which are footprint 1
+abbrev reader-makes : Instruction → List Line → TaskList
+reader-makes i ls =
     record {
-      locations = 1;
-      footprints = (record { kind = 3; value = 0 } ∷ record { kind = 1; value = 0 } ∷ []) ∷ [];
-      bodies = (Fan 1 0 2 ∷ []) ∷ [] ∷ [];
+      locations = 2;
+      footprints = (named 0 0 ∷ []) ∷ ls ∷ [];
+      bodies = (Spawn 1 0 ∷ []) ∷ (i ∷ []) ∷ [] ∷ [];
     }
 
 -- a spawn behind a fan of two tasks, all of a body that fans out one task; no locations are asked for
@@ -135,6 +144,12 @@ opening = start-of 0 ∷ step-of 0 ∷ step-of 0 ∷ []
 abbrev second-steps : List Call
 second-steps = opening ++ (start-of 2 ∷ step-of 2 ∷ step-of 2 ∷ [])
 
+-- job 0 spawns a task with these lines, which has this place in the queue of location 0
+abbrev shared : List Line → ℕ → Case
+shared ls place =
+    by-calls (sharing ls) (5 ∷ 7 ∷ []) (start-of 0 ∷ step-of 0 ∷ []) (0 ∷ 0 ∷ [])
+    (fault-is 0 0 ∷ order-is (1 ∷ 0 ∷ []) ∷ queue-is 0 (place ∷ 512 ∷ []) ∷ [])
+
 abbrev pub cases : List Case
 cases =
     -- P: "Hand run: 9, 9; 13 calls; weight 50."
@@ -159,9 +174,10 @@ cases =
     by-hand store-to-read (5 ∷ 7 ∷ []) (fault-is 1 2 ∷ memory-is (5 ∷ 7 ∷ []) ∷ []) ∷
     -- "Load of entry 2 where C = 2: fault 1."
     by-hand load-beyond (5 ∷ 7 ∷ []) (fault-is 0 1 ∷ []) ∷
-    -- "An entry named twice: fault 3, no child."
-    by-calls named-twice (5 ∷ 7 ∷ []) (start-of 0 ∷ step-of 0 ∷ []) (0 ∷ 0 ∷ [])
-    (fault-is 0 3 ∷ order-is (0 ∷ []) ∷ []) ∷
+    -- "An entry named twice: fault 3, no child." With request 106: "its example becomes an accepted spawn"; read and write give
+    -- write
+    by-calls named-twice (5 ∷ 7 ∷ []) (start-of 0 ∷ step-of 0 ∷ start-of 1 ∷ []) (0 ∷ 0 ∷ 0 ∷ [])
+    (fault-is 0 0 ∷ order-is (1 ∷ 0 ∷ []) ∷ queue-is 0 (513 ∷ 512 ∷ []) ∷ calls-are 3 ∷ weight-is 18 ∷ []) ∷
     -- "Empty sheet 0: start, end; 2 calls, weight 7."
     by-calls (small ([] ∷ [])) (5 ∷ 7 ∷ []) (start-of 0 ∷ end-of 0 ∷ []) (0 ∷ 0 ∷ [])
     (order-is [] ∷ calls-are 2 ∷ weight-is 7 ∷ []) ∷
@@ -192,7 +208,8 @@ cases =
     -- "If any child would fault, in order of children and lines, none is made.": child 2 asks for location 2 where C = 2
     by-calls (fanned 2 3) (1 ∷ 2 ∷ []) (start-of 0 ∷ step-of 0 ∷ start-of 1 ∷ []) (0 ∷ 0 ∷ 10 ∷ [])
     (order-is (0 ∷ []) ∷ fault-is 0 1 ∷ calls-are 2 ∷ weight-is 29 ∷ []) ∷
-    by-hand two-faults (1 ∷ []) (fault-is 0 3 ∷ calls-are 3 ∷ weight-is 23 ∷ []) ∷
+    -- child 0 would write where the spawner reads, child 1 asks for a location that it hasn't
+    by-hand (reader-makes (Fan 2 1 2) (named 3 0 ∷ [])) (5 ∷ 7 ∷ []) (fault-is 1 2 ∷ calls-are 6 ∷ weight-is 38 ∷ []) ∷
     -- "child i starts at i × count(a) within that block. Later spawns and fans of the sheet number on after the block.": jobs
     -- 1, 3 and 5. A fan "never waits": job 3's stands behind job 1. The spawner's own register 0 stays.
     by-calls (behind-fan (Const 0 9)) (1 ∷ []) (opening ++ (step-of 0 ∷ start-of 3 ∷ step-of 3 ∷ [])) (0 ∷ 0 ∷ 0 ∷ 0 ∷ 0 ∷ 0 ∷ [])
@@ -208,6 +225,19 @@ cases =
     refused-with (fan-bytes 1 0 17) 5 ∷
     refused-with (fan-bytes 0 0 1) 5 ∷
     refused-with (fan-bytes 1 1 1) 5 ∷
+    -- request 106: "An entry named twice now counts once: with the common mode, or with write where the modes differ.",
+    -- whichever line is first, also by a register (R1 is 0) and in three lines
+    shared (named 0 0 ∷ named 0 0 ∷ []) 257 ∷
+    shared (named 1 0 ∷ named 3 1 ∷ []) 513 ∷
+    shared (named 0 0 ∷ named 3 1 ∷ []) 513 ∷
+    shared (named 1 0 ∷ named 2 1 ∷ []) 513 ∷
+    shared (named 0 0 ∷ named 1 0 ∷ named 0 0 ∷ []) 513 ∷
+    shared (named 0 0 ∷ named 1 1 ∷ named 2 1 ∷ []) 257 ∷
+    -- "Lines are still tested for faults 1 and 2 in turn.": the spawner only reads location 0
+    by-hand (reader-makes (Spawn 2 1) (named 0 0 ∷ named 2 1 ∷ [])) (5 ∷ 7 ∷ []) (fault-is 1 0 ∷ calls-are 8 ∷ []) ∷
+    by-hand (reader-makes (Spawn 2 1) (named 0 0 ∷ named 3 1 ∷ [])) (5 ∷ 7 ∷ []) (fault-is 1 2 ∷ calls-are 6 ∷ []) ∷
+    by-hand (reader-makes (Spawn 2 1) (named 1 0 ∷ named 0 1 ∷ [])) (5 ∷ 7 ∷ []) (fault-is 1 2 ∷ calls-are 6 ∷ []) ∷
+    by-hand (reader-makes (Spawn 2 1) (named 0 1 ∷ named 1 0 ∷ [])) (5 ∷ 7 ∷ []) (fault-is 1 1 ∷ calls-are 6 ∷ []) ∷
     -- Besides those marked. "With P and input 00 00 01 00 01 00 00 02 it prints the lines 0, 0, 0, 12, 5, 7, `3 21 3`."
     -- With request 102 the fourth is 19.
     by-calls P (5 ∷ 7 ∷ []) (opening ++ (start-of 2 ∷ [])) (0 ∷ 0 ∷ 0 ∷ 19 ∷ [])
@@ -231,10 +261,10 @@ cases =
     (fault-is 2 2 ∷ memory-is (5 ∷ 7 ∷ []) ∷ []) ∷
     by-calls (second-reader (Const 0 1 ∷ Load 1 0 ∷ [])) (5 ∷ 7 ∷ []) second-steps (0 ∷ 0 ∷ 0 ∷ 0 ∷ 0 ∷ 0 ∷ [])
     (fault-is 2 1 ∷ []) ∷
-    -- "Lines are tested in turn": the second line writes where the spawner reads, which comes before naming twice
+    -- "2: store, or a write line, where its own mode is read": also where an earlier line names the location
     by-calls (second-reader (Spawn 3 1 ∷ [])) (5 ∷ 7 ∷ []) second-steps (0 ∷ 0 ∷ 0 ∷ 0 ∷ 0 ∷ 14 ∷ [])
     (fault-is 2 2 ∷ order-is (1 ∷ 2 ∷ 0 ∷ []) ∷ []) ∷ []
 
 pub cases-hold : every holds cases ≡ true
-unfolding body-of footprint-of instruction-of total adds count-body count-from counts task-count field is-tag tag in-range number counted many row head-numbers head line-limit line-ok is-line line footprint forms form spawn-ok instruction-ok is-instruction instruction body list-behind sized finish decode Decode.register instruction-fields no-modes never fixed-weights weight-of root-modes root initial every any only ahead queue behind-writer compatible allowed access-fault unless-fault plan-load plan-store plan-wait passed-over targets all-targets twice first-fault unless-denied grant child-modes with-first children fan-of numbered-from child-number plan-make plan-instruction units step-weight at-end needs-from plan-start plan-step plan-end plan hold admit search-from search hold-number settle among decide edited written splice stays places changes apply taken call after after-all run-each step-through steps-through enough run-whole sequential queue-places outcome-number same is-so answers has-tasks is-refused holds
+unfolding body-of footprint-of instruction-of total adds count-body count-from counts task-count field is-tag tag in-range number counted many row head-numbers head line-limit line-ok is-line line footprint forms form spawn-ok instruction-ok is-instruction instruction body list-behind sized finish decode Decode.register instruction-fields no-modes never fixed-weights weight-of root-modes root initial every any only ahead queue behind-writer compatible allowed access-fault unless-fault plan-load plan-store plan-wait passed-over targets all-targets merged unless-denied grant child-modes with-first children fan-of numbered-from child-number plan-make plan-instruction units step-weight at-end needs-from plan-start plan-step plan-end plan hold admit search-from search hold-number settle among decide edited written splice stays places changes apply taken call after after-all run-each step-through steps-through enough run-whole sequential queue-places outcome-number same is-so answers has-tasks is-refused holds
 cases-hold = refl

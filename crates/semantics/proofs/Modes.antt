@@ -2,16 +2,18 @@
 use Prim.Native.Nat.{ℕ, zero, suc, _<_}
 use mathlib.Core.Path.{_≡_, refl, sym, ap, subst}
 use mathlib.Core.List.{List, [], _∷_}
-use mathlib.Core.Bool.{true, false}
+use mathlib.Core.Bool.{true, false, cond, false≢true}
 use mathlib.Core.Logic.{_⊎_, inl, inr}
 use native.Mathlib.Decide.{ℕ-discrete, decLt}
 use native.Mathlib.Omega.{arith}
 use lib.ListN.{length, getD, set, replicate}
+use lib.Dec.{eqb}
 use lib.Seq.{getD-set-same, getD-set-other, set-out}
+use borrow.Author.Tests.{eq-eqb, ne-eqb}
 use Rattle.tasklist.specs.declared.Line.{Line}
 use Rattle.semantics.specs.Run.{Task, mode-of, no-modes}
 use Rattle.semantics.specs.Access.{Access, compatible, access-fault}
-use Rattle.semantics.specs.Footprint.{Grant, denied, granted, first-fault, unless-denied, grant, child-modes, all-targets, twice}
+use Rattle.semantics.specs.Footprint.{Grant, denied, granted, merged, unless-denied, grant, child-modes, all-targets}
 
 pub not-zero : (n : ℕ) → suc n ≡ 0 → ⊥
 not-zero n h = omega arith
@@ -34,6 +36,12 @@ read-below-write (suc zero) h = refl
 read-below-write (suc (suc zero)) h = h
 read-below-write (suc (suc (suc w))) h = h
 
+-- a mode beside which reading stands, none aside, is read
+under-read : (e : ℕ) → compatible (suc e) 1 ≡ true → e ≡ 0
+under-read zero h = refl
+under-read (suc zero) h = absurd (false≢true (unfold compatible in h))
+under-read (suc (suc e)) h = absurd (false≢true (unfold compatible in h))
+
 -- a mode that the own mode grants is under it
 pub granted-under : (o m w : ℕ) → access-fault o m ≡ 0 → compatible o w ≡ true → compatible m w ≡ true
 granted-under zero zero w f h = h
@@ -49,6 +57,32 @@ granted-under (suc (suc zero)) (suc zero) w f h = read-below-write w h
 granted-under (suc (suc zero)) (suc (suc zero)) w f h = h
 granted-under (suc (suc zero)) (suc (suc (suc m))) w f h = absurd (not-zero 0 (unfold access-fault in f))
 granted-under (suc (suc (suc o))) m w f h = absurd (not-zero 0 (unfold access-fault in f))
+
+-- Two modes under the own one, both there and different, are asked for of a writer only.
+differing-under :
+    (o e m w : ℕ) → access-fault o (suc m) ≡ 0 → ((v : ℕ) → compatible o v ≡ true → compatible (suc e) v ≡ true)
+    → (e ≡ m → ⊥) → compatible o w ≡ true → compatible 2 w ≡ true
+differing-under zero e zero w f u ne h = absurd (not-zero 0 (unfold access-fault in f))
+differing-under zero e (suc zero) w f u ne h = absurd (not-zero 0 (unfold access-fault in f))
+differing-under zero e (suc (suc m)) w f u ne h = absurd (not-zero 0 (unfold access-fault in f))
+differing-under (suc zero) e zero w f u ne h = absurd (ne (under-read e (u 1 (unfold compatible in refl))))
+differing-under (suc zero) e (suc zero) w f u ne h = absurd (not-zero 1 (unfold access-fault in f))
+differing-under (suc zero) e (suc (suc m)) w f u ne h = absurd (not-zero 0 (unfold access-fault in f))
+differing-under (suc (suc zero)) e m w f u ne h = h
+differing-under (suc (suc (suc o))) e m w f u ne h = absurd (not-zero 0 (unfold access-fault in f))
+
+-- a merged mode is under the own one where the mode so far and the line's are
+pub merged-under :
+    (o e m w : ℕ) → access-fault o m ≡ 0 → ((v : ℕ) → compatible o v ≡ true → compatible e v ≡ true)
+    → compatible o w ≡ true → compatible (merged e m) w ≡ true
+unfolding merged
+merged-under o zero m w f u h = granted-under o m w f h
+merged-under o (suc e) zero w f u h = u w h
+merged-under o (suc e) (suc m) w f u h = go (ℕ-discrete e m)
+  where
+    go : Dec (e ≡ m) → compatible (cond (eqb e m) (suc m) 2) w ≡ true
+    go (yes q) = rw (eq-eqb e m q) (granted-under o (suc m) w f h)
+    go (no q) = rw (ne-eqb e m q) (differing-under o e m w f u q h)
 
 -- a task that may store stands beside no reading and no writing; one that may load, beside no writing
 pub store-excludes-reading : (o : ℕ) → access-fault o 2 ≡ 0 → compatible o 1 ≡ false
@@ -97,39 +131,40 @@ getD-set-cases l i x j d = go (ℕ-discrete j i) (decLt i (length l))
 
 set-under :
     (t : Task) (ms : List ℕ) (g : Access) → Under t ms → access-fault (mode-of t (g .location)) (g .mode) ≡ 0
-    → Under t (set ms (g .location) (g .mode))
-set-under t ms g u f a w h = go (getD-set-cases ms (g .location) (g .mode) a 0)
+    → Under t (set ms (g .location) (merged (getD ms (g .location) 0) (g .mode)))
+set-under t ms g u f a w h = go (getD-set-cases ms (g .location) mode a 0)
   where
+    mode : ℕ
+    mode = merged (getD ms (g .location) 0) (g .mode)
+
     after : List ℕ
-    after = set ms (g .location) (g .mode)
+    after = set ms (g .location) mode
 
     go :
-        (getD after a 0 ≡ getD ms a 0) ⊎ ((a ≡ g .location) × (getD after a 0 ≡ g .mode))
+        (getD after a 0 ≡ getD ms a 0) ⊎ ((a ≡ g .location) × (getD after a 0 ≡ mode))
         → compatible (getD after a 0) w ≡ true
     go (inl q) = subst (λ m. compatible m w ≡ true) (sym q) (u a w h)
     go (inr q) =
         subst (λ m. compatible m w ≡ true) (sym (q .1))
-        (granted-under (mode-of t (g .location)) (g .mode) w f (subst (λ k. compatible (mode-of t k) w ≡ true) (q .0) h))
+        (merged-under (mode-of t (g .location)) (getD ms (g .location) 0) (g .mode) w f (u (g .location))
+        (subst (λ k. compatible (mode-of t k) w ≡ true) (q .0) h))
 
 -- what a grant has of the modes it gives
 abbrev pub GrantUnder : Task → Grant → Type 0
 GrantUnder t (denied k) = Unit {0}
 GrantUnder t (granted ms) = Under t ms
 
-unless-under :
-    (t : Task) (f k : ℕ) (g : Grant) → (f ≡ 0 → GrantUnder t g) → GrantUnder t (unless-denied (first-fault f k) g)
-unfolding unless-denied first-fault
-unless-under t zero zero g h = h refl
-unless-under t zero (suc k) g h = tt
-unless-under t (suc f) k g h = tt
+unless-under : (t : Task) (f : ℕ) (g : Grant) → (f ≡ 0 → GrantUnder t g) → GrantUnder t (unless-denied f g)
+unfolding unless-denied
+unless-under t zero g h = h refl
+unless-under t (suc f) g h = tt
 
 grant-under : (t : Task) (ms : List ℕ) (gs : List Access) → Under t ms → GrantUnder t (grant t ms gs)
 unfolding grant
 grant-under t ms [] u = u
 grant-under t ms (g ∷ gs) u =
-    unless-under t (access-fault (mode-of t (g .location)) (g .mode)) (twice (getD ms (g .location) 0))
-    (grant t (set ms (g .location) (g .mode)) gs)
-    (λ f. grant-under t (set ms (g .location) (g .mode)) gs (set-under t ms g u f))
+    unless-under t (access-fault (mode-of t (g .location)) (g .mode)) _
+    (λ f. grant-under t (set ms (g .location) (merged (getD ms (g .location) 0) (g .mode))) gs (set-under t ms g u f))
 
 pub child-under : (t : Task) (ls : List Line) → GrantUnder t (child-modes t ls)
 unfolding child-modes

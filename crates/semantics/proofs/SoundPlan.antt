@@ -93,7 +93,7 @@ module _
           blank = λ x. absurd (started x);
         }
 
-    fault-sound : (k : ℕ) → k ≤ 3 → (k ≡ 0 → ⊥) → TaskSound c (faulted k t)
+    fault-sound : (k : ℕ) → k ≤ 2 → (k ≡ 0 → ⊥) → TaskSound c (faulted k t)
     fault-sound k p q =
         let e = h .early clean in
         let z = size in
@@ -135,7 +135,7 @@ module _
     set-on : (w a v : ℕ) → w ≤ most → v < 2 ^ 32 → EffectSound c most t (own w (moved 1 (set (t .registers) a v) t))
     set-on w a v m q = on-sound w 1 (set (t .registers) a v) m (omega arith) (omega arith) (registers-set (t .registers) a v (h .registers) q)
 
-    fails-sound : (w k : ℕ) → w ≤ most → k ≤ 3 → (k ≡ 0 → ⊥) → EffectSound c most t (own w (faulted k t))
+    fails-sound : (w k : ℕ) → w ≤ most → k ≤ 2 → (k ≡ 0 → ⊥) → EffectSound c most t (own w (faulted k t))
     fails-sound w k m p q =
         record {
           task = fault-sound k p q;
@@ -156,7 +156,7 @@ module _
     -- a child of the spawner as it sees it
     new-sound :
         (s : ℕ) → s < length (c .list .bodies) → (x : Task) → RegistersSound (x .registers) → (g : Grant)
-        → GrantSound (c .list .locations) g → MadeOne (λ f. (f ≤ 3) × (f ≡ 0 → ⊥)) (NewSound c) s x g
+        → GrantSound (c .list .locations) g → MadeOne (λ f. (f ≤ 2) × (f ≡ 0 → ⊥)) (NewSound c) s x g
     new-sound s l x rs (denied f) q = q
     new-sound s l x rs (granted ms) q =
         record {
@@ -180,15 +180,15 @@ module _
     children-sound :
         (s : ℕ) → s < length (c .list .bodies) → (ls : List Line) (ts : List Task)
         → ((x : Task) → In x ts → (x .modes ≡ t .modes) × RegistersSound (x .registers))
-        → Made (λ f. (f ≤ 3) × (f ≡ 0 → ⊥)) (NewSound c) (length ts) (children s ls ts)
+        → Made (λ f. (f ≤ 2) × (f ≡ 0 → ⊥)) (NewSound c) (length ts) (children s ls ts)
     children-sound s l ls ts v =
-        children-made (λ f. (f ≤ 3) × (f ≡ 0 → ⊥)) (NewSound c) s ls ts
+        children-made (λ f. (f ≤ 2) × (f ≡ 0 → ⊥)) (NewSound c) s ls ts
         (λ x i.
         new-sound s l x (v x i .1) (child-modes x ls)
         (child-sound (c .list .locations) x (subst (ModesSound (c .list .locations)) (sym (v x i .0)) (h .modes)) ls))
 
     make-sound :
-        (w s k : ℕ) (ys : Children) → w ≤ most → Made (λ f. (f ≤ 3) × (f ≡ 0 → ⊥)) (NewSound c) k ys
+        (w s k : ℕ) (ys : Children) → w ≤ most → Made (λ f. (f ≤ 2) × (f ≡ 0 → ⊥)) (NewSound c) k ys
         → PlanSound c most t (plan-make c w n t s ys)
     unfolding plan-make
     make-sound w s k (none-made f) m q = fails-sound w f m (q .0) (q .1)

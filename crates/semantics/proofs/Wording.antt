@@ -1,5 +1,6 @@
 -- The guards over the whole order are document 01's words on queues: "all ahead of it in that queue have mode 1", "none is
--- ahead", and request 102's "a job of mode write is ahead". Assumes nothing.
+-- ahead", and request 102's "a job of mode write is ahead". A footprint is a set: the order of the lines that name a location
+-- doesn't matter to its mode. Assumes nothing.
 use Prim.Native.Nat.{ℕ, zero, suc, _+_, _≤_}
 use mathlib.Core.Path.{_≡_, refl, sym, ap, subst, _∙_}
 use mathlib.Core.List.{List, [], _∷_}
@@ -13,6 +14,7 @@ use lib.Dec.{eqb, eqb·suc-zero}
 use borrow.Author.Tests.{eq-eqb, ne-eqb}
 use Rattle.semantics.specs.Run.{Run, mode-of, task-of}
 use Rattle.semantics.specs.Access.{Access, reads, writes, every, any, only, ahead, queue, may-read, may-write, behind-writer, compatible, allowed}
+use Rattle.semantics.specs.Footprint.{merged}
 use Rattle.semantics.specs.Plan.{needs-from}
 use Rattle.semantics.specs.Sound.{In}
 use Rattle.semantics.proofs.Order.{every-in, in-every, ahead-self, ahead-other}
@@ -201,3 +203,61 @@ module _ (r : Run) (n : ℕ) where
           let at : g .location ≡ k .0 = k .1 ∙ zero-add (k .0) in
           let mode : mode-of (task-of r n) (g .location) ≡ g .mode = ap (mode-of (task-of r n)) at ∙ sym (k .2) in
           sort (g .location) (g .mode) mode (k .3) (subst (λ x. x ≤ 2) mode (most (g .location)))
+
+-- request 106: one common mode, else write, whichever line is first
+merged-common : (m : ℕ) → merged m m ≡ m
+unfolding merged
+merged-common zero = refl
+merged-common (suc m) = rw (eq-eqb m m refl) refl
+
+merged-differing : (e m : ℕ) → (e ≡ m → ⊥) → merged (suc e) (suc m) ≡ 2
+unfolding merged
+merged-differing e m h = rw (ne-eqb e m h) refl
+
+merged-with-none : (m : ℕ) → merged m 0 ≡ m
+unfolding merged
+merged-with-none zero = refl
+merged-with-none (suc m) = refl
+
+pub merged-swap : (e m : ℕ) → merged e m ≡ merged m e
+merged-swap zero m = unfold merged in sym (merged-with-none m)
+merged-swap (suc e) zero = unfold merged in refl
+merged-swap (suc e) (suc m) = sort (ℕ-discrete e m)
+  where
+    sort : Dec (e ≡ m) → merged (suc e) (suc m) ≡ merged (suc m) (suc e)
+    sort (yes q) = subst (λ k. merged (suc e) (suc k) ≡ merged (suc k) (suc e)) q refl
+    sort (no q) = merged-differing e m q ∙ sym (merged-differing m e (λ x. q (sym x)))
+
+-- with write it is write
+merged-write : (m : ℕ) → merged 2 m ≡ 2
+merged-write zero = merged-with-none 2
+merged-write (suc m) = sort (ℕ-discrete 1 m)
+  where
+    sort : Dec (1 ≡ m) → merged 2 (suc m) ≡ 2
+    sort (yes q) = subst (λ k. merged 2 (suc k) ≡ 2) q (merged-common 2)
+    sort (no q) = merged-differing 1 m q
+
+-- two that differ, and one more
+merged-three : (e m k : ℕ) → (e ≡ m → ⊥) → merged (merged (suc e) (suc m)) (suc k) ≡ 2
+merged-three e m k h = ap (λ x. merged x (suc k)) (merged-differing e m h) ∙ merged-write (suc k)
+
+pub merged-order : (e m k : ℕ) → merged (merged e m) k ≡ merged (merged e k) m
+merged-order zero m k = unfold merged in merged-swap m k
+merged-order (suc e) zero k =
+    ap (λ x. merged x k) (merged-with-none (suc e)) ∙ sym (merged-with-none (merged (suc e) k))
+merged-order (suc e) (suc m) zero =
+    merged-with-none (merged (suc e) (suc m)) ∙ ap (λ x. merged x (suc m)) (sym (merged-with-none (suc e)))
+merged-order (suc e) (suc m) (suc k) = sort (ℕ-discrete e m) (ℕ-discrete e k)
+  where
+    last : (i j : ℕ) → e ≡ i → (e ≡ j → ⊥) → merged (merged (suc e) (suc i)) (suc j) ≡ 2
+    last i j q h =
+        ap (λ x. merged (merged (suc e) (suc x)) (suc j)) (sym q) ∙ ap (λ x. merged x (suc j)) (merged-common (suc e)) ∙
+        merged-differing e j h
+
+    sort : Dec (e ≡ m) → Dec (e ≡ k) → merged (merged (suc e) (suc m)) (suc k) ≡ merged (merged (suc e) (suc k)) (suc m)
+    sort (yes p) (yes q) =
+        ap (λ x. merged (merged (suc e) (suc x)) (suc k)) (sym p ∙ q) ∙
+        ap (λ x. merged (merged (suc e) (suc k)) (suc x)) (sym q ∙ p)
+    sort (yes p) (no q) = last m k p q ∙ sym (merged-three e k m q)
+    sort (no p) (yes q) = merged-three e m k p ∙ sym (last k m q p)
+    sort (no p) (no q) = merged-three e m k p ∙ sym (merged-three e k m q)

@@ -2,7 +2,9 @@
 -- or a fan.
 use Prim.Native.Nat.{ℕ, zero, suc}
 use mathlib.Core.List.{List, [], _∷_, _++_}
+use mathlib.Core.Bool.{cond}
 use lib.ListN.{getD, set}
+use lib.Dec.{eqb}
 use Rattle.tasklist.specs.declared.Line.{Line}
 use Rattle.semantics.specs.Run.{Task, mode-of, register, no-modes}
 use Rattle.semantics.specs.Access.{Access, access-fault}
@@ -25,28 +27,25 @@ pub data Grant : Type 0 where
   denied : ℕ → Grant
   granted : List ℕ → Grant
 
--- "3: a footprint names an entry twice, in any modes"
-unfoldable pub twice : ℕ → ℕ
-twice zero = 0
-twice (suc m) = 3
-
--- "Lines are tested in turn: 1, 2, then 3 against earlier lines."
-unfoldable pub first-fault : ℕ → ℕ → ℕ
-first-fault zero k = k
-first-fault (suc j) k = suc j
+-- Request 106: "An entry named twice now counts once: with the common mode, or with write where the modes differ." The mode
+-- granted so far, 0 for none, with that of one more line.
+unfoldable pub merged : ℕ → ℕ → ℕ
+merged zero mode = mode
+merged (suc m) zero = suc m
+merged (suc m) (suc k) = cond (eqb m k) (suc k) 2
 
 -- a fault, 0 for none, denies
 unfoldable pub unless-denied : ℕ → Grant → Grant
 unless-denied zero g = g
 unless-denied (suc k) g = denied (suc k)
 
--- the modes granted so far, and those that these accesses add, by the spawner's own modes
+-- The modes granted so far, and those that these accesses add, by the spawner's own modes. Request 106: "Lines are still
+-- tested for faults 1 and 2 in turn."
 unfoldable pub grant : Task → List ℕ → List Access → Grant
 grant t so-far [] = granted so-far
 grant t so-far (g ∷ gs) =
-    unless-denied
-    (first-fault (access-fault (mode-of t (g .location)) (g .mode)) (twice (getD so-far (g .location) 0)))
-    (grant t (set so-far (g .location) (g .mode)) gs)
+    unless-denied (access-fault (mode-of t (g .location)) (g .mode))
+    (grant t (set so-far (g .location) (merged (getD so-far (g .location) 0) (g .mode))) gs)
 
 -- "its footprint's modes": what these lines give a child of task t
 unfoldable pub child-modes : Task → List Line → Grant

@@ -13,7 +13,7 @@ use Rattle.tasklist.specs.declared.Line.{Line}
 use Rattle.semantics.specs.Run.{Task, no-modes}
 use Rattle.semantics.specs.Effect.{child}
 use Rattle.semantics.specs.Access.{Access, access-fault}
-use Rattle.semantics.specs.Footprint.{Grant, denied, granted, all-targets, twice, first-fault, unless-denied, grant, child-modes, Children, none-made, all-made, with-first, children, first-register, fan-of}
+use Rattle.semantics.specs.Footprint.{Grant, denied, granted, all-targets, merged, unless-denied, grant, child-modes, Children, none-made, all-made, with-first, children, first-register, fan-of}
 use Rattle.semantics.specs.Call.{splice}
 use Rattle.semantics.specs.Sound.{Distinct}
 use Rattle.tables.specs.declared.Granting.{Granting}
@@ -105,13 +105,15 @@ grant-length : (t : Task) (so-far : List ℕ) (gs : List Access) (ms : List ℕ)
 unfolding grant unless-denied
 grant-length t so-far [] ms q = ap (λ g. length (modes-in g)) (sym q)
 grant-length t so-far (g ∷ gs) ms q =
-    sort (grant-length t (set so-far (g .location) (g .mode)) gs ms)
-    (first-fault (access-fault (getD (t .modes) (g .location) 0) (g .mode)) (twice (getD so-far (g .location) 0))) q
+    sort (grant-length t more gs ms) (access-fault (getD (t .modes) (g .location) 0) (g .mode)) q
   where
+    more : List ℕ
+    more = set so-far (g .location) (merged (getD so-far (g .location) 0) (g .mode))
+
     sort :
-        (grant t (set so-far (g .location) (g .mode)) gs ≡ granted ms → length ms ≡ length (set so-far (g .location) (g .mode)))
-        → (k : ℕ) → unless-denied k (grant t (set so-far (g .location) (g .mode)) gs) ≡ granted ms → length ms ≡ length so-far
-    sort ih zero e = ih e ∙ length-set so-far (g .location) (g .mode)
+        (grant t more gs ≡ granted ms → length ms ≡ length more) → (k : ℕ) → unless-denied k (grant t more gs) ≡ granted ms
+        → length ms ≡ length so-far
+    sort ih zero e = ih e ∙ length-set so-far (g .location) (merged (getD so-far (g .location) 0) (g .mode))
     sort ih (suc k) e = let z : _≡_ {A = ℕ} 0 1 = cc in let bad : ⊥ = omega arith in absurd bad
 
 pub child-length :

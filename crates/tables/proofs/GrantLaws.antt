@@ -7,11 +7,12 @@ use native.Mathlib.Omega.{arith}
 use native.Mathlib.Numerals.{add-one}
 use lib.ListN.{length, drop, getD, set, drop-of-length-le, List·getD-eq-default}
 use lib.Seq.{drop-cons}
+use borrow.Author.Tests.{eq-eqb, ne-eqb}
 use Rattle.tasklist.specs.declared.Line.{Line}
 use Rattle.tasklist.specs.Accepted.{blank-line}
 use Rattle.semantics.specs.Run.{Task, no-modes}
 use Rattle.semantics.specs.Access.{Access, access-fault}
-use Rattle.semantics.specs.Footprint.{Grant, denied, granted, targets, all-targets, twice, first-fault, unless-denied, grant, child-modes}
+use Rattle.semantics.specs.Footprint.{Grant, denied, granted, targets, all-targets, merged, unless-denied, grant, child-modes}
 use Rattle.ahead.specs.Ahead.{access}
 use Rattle.tables.specs.Grants.{named-location, named-mode, spawner}
 
@@ -97,28 +98,29 @@ kind-none l p q r s = by-kind (l .kind) p q r s
     by-kind (suc (suc (suc zero))) p q r s = absurd (s refl)
     by-kind (suc (suc (suc (suc k)))) p q r s = refl
 
--- the fault of a line
-pub first-of : (f k : ℕ) → f ≢ 0 → f ≡ first-fault f k
-unfolding first-fault
-first-of zero k h = absurd (h refl)
-first-of (suc f) k h = refl
+-- the mode of two lines, by whether the modes are there and are one
+pub merged-first : (e m : ℕ) → e ≡ 0 → m ≡ merged e m
+unfolding merged
+merged-first zero m q = refl
+merged-first (suc e) m q = let z : ⊥ = omega arith in absurd z
 
-pub second-of : (f e : ℕ) → f ≡ 0 → e ≢ 0 → 3 ≡ first-fault f (twice e)
-unfolding first-fault twice
-second-of f zero q h = absurd (h refl)
-second-of f (suc e) q h = sym (ap (λ m. first-fault m 3) q)
+pub merged-none : (e m : ℕ) → m ≡ 0 → e ≡ merged e m
+unfolding merged
+merged-none zero m q = sym q
+merged-none (suc e) zero q = refl
+merged-none (suc e) (suc m) q = let z : ⊥ = omega arith in absurd z
 
-pub none-of : (f e : ℕ) → f ≡ 0 → e ≡ 0 → 0 ≡ first-fault f (twice e)
-unfolding first-fault twice
-none-of f e q z = sym (ap (λ m. first-fault m (twice e)) q ∙ ap twice z)
+pub merged-common : (e m : ℕ) → e ≡ m → m ≡ merged e m
+unfolding merged
+merged-common zero m q = refl
+merged-common (suc e) zero q = sym q
+merged-common (suc e) (suc m) q = rw (eq-eqb e m (omega arith)) refl
 
--- by the modes looked up
-pub fault-of : (own modes : List ℕ) (location asked mine earlier fault : ℕ) → fault ≡ first-fault (access-fault mine asked) (twice earlier)
-    → mine ≡ getD own location 0 → earlier ≡ getD modes location 0
-    → fault ≡ first-fault (access-fault (getD own location 0) asked) (twice (getD modes location 0))
-fault-of own modes location asked mine earlier fault f p q =
-    f ∙ ap (λ x. first-fault (access-fault x asked) (twice earlier)) p ∙
-    ap (λ x. first-fault (access-fault (getD own location 0) asked) (twice x)) q
+pub merged-other : (e m : ℕ) → e ≢ 0 → m ≢ 0 → e ≢ m → 2 ≡ merged e m
+unfolding merged
+merged-other zero m p q r = absurd (p refl)
+merged-other (suc e) zero p q r = absurd (q refl)
+merged-other (suc e) (suc m) p q r = rw (ne-eqb e m (λ x. r (ap suc x))) refl
 
 denies : (k : ℕ) (g : Grant) → k ≢ 0 → unless-denied k g ≡ denied k
 unfolding unless-denied
@@ -136,9 +138,12 @@ module _ (registers own : List ℕ) (ls : List Line) where
 
   module _ (modes : List ℕ) (j location asked fault : ℕ) (l : Line) (h : j < length ls) (q : l ≡ getD ls j blank-line)
       (p : location ≡ named-location registers l) (m : asked ≡ named-mode l)
-      (f : fault ≡ first-fault (access-fault (getD own location 0) asked) (twice (getD modes location 0))) (e : Given modes j) where
+      (f : fault ≡ access-fault (getD own location 0) asked) (e : Given modes j) where
+    abbrev with-line : List ℕ
+    with-line = set modes location (merged (getD modes location 0) asked)
+
     opened : child-modes (spawner registers own) ls
-        ≡ unless-denied fault (grant (spawner registers own) (set modes location asked) (all-targets (spawner registers own) (drop (suc j) ls)))
+        ≡ unless-denied fault (grant (spawner registers own) with-line (all-targets (spawner registers own) (drop (suc j) ls)))
     unfolding Given all-targets targets grant named-location named-mode
     opened =
         e ∙
@@ -146,18 +151,18 @@ module _ (registers own : List ℕ) (ls : List Line) where
         (drop-cons ls j blank-line h ∙ ap (λ x. x ∷ drop (suc j) ls) (sym q)) ∙
         ap (λ a. grant (spawner registers own) modes (access a (named-mode l) ∷ all-targets (spawner registers own) (drop (suc j) ls))) (sym p) ∙
         ap (λ a. grant (spawner registers own) modes (access location a ∷ all-targets (spawner registers own) (drop (suc j) ls))) (sym m) ∙
-        ap (λ k. unless-denied k (grant (spawner registers own) (set modes location asked) (all-targets (spawner registers own) (drop (suc j) ls)))) (sym f)
+        ap (λ k. unless-denied k (grant (spawner registers own) with-line (all-targets (spawner registers own) (drop (suc j) ls)))) (sym f)
 
-    pub given-more : fault ≡ 0 → Given (set modes location asked) (j + 1)
+    pub given-more : fault ≡ 0 → Given with-line (j + 1)
     unfolding Given unless-denied
     given-more z =
         rw (add-one j)
         (opened ∙
-        ap (λ k. unless-denied k (grant (spawner registers own) (set modes location asked) (all-targets (spawner registers own) (drop (suc j) ls)))) z)
+        ap (λ k. unless-denied k (grant (spawner registers own) with-line (all-targets (spawner registers own) (drop (suc j) ls)))) z)
 
     pub given-denied : fault ≢ 0 → denied fault ≡ child-modes (spawner registers own) ls
     given-denied z =
-        sym (opened ∙ denies fault (grant (spawner registers own) (set modes location asked) (all-targets (spawner registers own) (drop (suc j) ls))) z)
+        sym (opened ∙ denies fault (grant (spawner registers own) with-line (all-targets (spawner registers own) (drop (suc j) ls))) z)
 
   pub given-all : (modes : List ℕ) (j : ℕ) → length ls ≤ j → Given modes j → granted modes ≡ child-modes (spawner registers own) ls
   unfolding Given all-targets grant
@@ -174,8 +179,8 @@ same-grant : (t : Task) (so-far : List ℕ) (gs : List Access) → grant (spawne
 unfolding grant
 same-grant t so-far [] = refl
 same-grant t so-far (g ∷ gs) =
-    ap (unless-denied (first-fault (access-fault (getD (t .modes) (g .location) 0) (g .mode)) (twice (getD so-far (g .location) 0))))
-    (same-grant t (set so-far (g .location) (g .mode)) gs)
+    ap (unless-denied (access-fault (getD (t .modes) (g .location) 0) (g .mode)))
+    (same-grant t (set so-far (g .location) (merged (getD so-far (g .location) 0) (g .mode))) gs)
 
 pub any-spawner : (t : Task) (ls : List Line) → child-modes (spawner (t .registers) (t .modes)) ls ≡ child-modes t ls
 unfolding child-modes

@@ -4,7 +4,7 @@ ghost use lib.ListN.{getD};
 ghost use Rattle.tasklist.specs.TaskList.{footprint-of};
 ghost use Rattle.tasklist.specs.Tables.{list-of};
 ghost use Rattle.semantics.specs.Access.{access-fault};
-ghost use Rattle.semantics.specs.Footprint.{twice, first-fault, child-modes};
+ghost use Rattle.semantics.specs.Footprint.{merged, child-modes};
 ghost use Rattle.tables.specs.Grants.{named-location, named-mode, spawner, grant-of, child-registers, child-grant, is-denied, grants-from};
 ghost use Rattle.semantics.specs.Run.{no-modes};
 ghost use Rattle.semantics.specs.Footprint.{granted};
@@ -86,18 +86,20 @@ fn mode_of(line: Line) -> u8
     0
 }
 
-// The fault of a line, 0 for none: of its access, then of a location that an earlier line names.
-fn line_fault(own: u8, asked: u8, earlier: u8) -> u8
-    ensures { λ r. ⌜ r ≡ first-fault (access-fault own asked) (twice earlier) ⌝ }
+// The mode of a location by the lines before, 0 for none, and by this one: the common mode, or write where they differ.
+fn merged_mode(earlier: u8, asked: u8) -> u8
+    ensures { λ r. ⌜ r ≡ merged earlier asked ⌝ }
 {
-    let fault = access_fault(own, asked);
-    if fault != 0 {
-        return fault;
+    if earlier == 0 {
+        return asked;
     }
-    if earlier != 0 {
-        return 3;
+    if asked == 0 {
+        return earlier;
     }
-    0
+    if earlier == asked {
+        return asked;
+    }
+    2
 }
 
 // The modes that a footprint gives a child of a task with these registers and modes, or the fault of the spawn.
@@ -112,15 +114,16 @@ pub fn granted(tables: Tables, footprint: usize, registers: [u32; 4], own: [u8; 
         let location = location_of(line, registers);
         let asked = mode_of(line);
         let mine = mode_in(own, location);
-        let earlier = mode_in(modes, location);
-        let fault = line_fault(mine, asked, earlier);
+        let fault = access_fault(mine, asked);
         if fault != 0 {
             return Granting {
                 grant: Grant::Denied(fault),
                 modes,
             };
         }
-        let more = with_mode(modes, location, asked);
+        let earlier = mode_in(modes, location);
+        let mode = merged_mode(earlier, asked);
+        let more = with_mode(modes, location, mode);
         modes = more;
         j += 1;
     }

@@ -11,7 +11,7 @@ use Rattle.library.specs.Library.{number-of, numbers-of, memory-of}
 use Rattle.semantics.specs.Run.{no-modes, never, fixed-weights, weight-of, root-modes, root, initial, context}
 use Rattle.semantics.specs.Access.{every, any, only, ahead, queue, behind-writer, compatible, allowed, access-fault}
 use Rattle.semantics.specs.Effect.{numbered-from}
-use Rattle.semantics.specs.Footprint.{targets, all-targets, twice, first-fault, unless-denied, grant, child-modes, with-first, children}
+use Rattle.semantics.specs.Footprint.{targets, all-targets, merged, unless-denied, grant, child-modes, with-first, children}
 use Rattle.semantics.specs.Plan.{unless-fault, plan-load, plan-store, plan-wait, passed-over, child-number, plan-make, plan-instruction, units, step-weight, at-end, needs-from, plan-start, plan-step, plan-end, plan}
 use Rattle.semantics.specs.Call.{hold, admit, settle, among, decide, edited, written, splice, stays, places, changes, apply, taken, call, after, after-all}
 use Rattle.semantics.specs.Operations.{with-list}
@@ -38,7 +38,7 @@ unfolding memory-of numbers-of number-of
 P-memory = refl
 
 P-run : lines-from (context P) (initial (context P) (5 ∷ 7 ∷ [])) P-input ≡ P-lines
-unfolding body-of footprint-of instruction-of total adds count-body count-from counts task-count no-modes never fixed-weights weight-of root-modes root initial every any only ahead queue behind-writer compatible allowed access-fault unless-fault plan-load plan-store plan-wait passed-over targets all-targets twice first-fault unless-denied grant child-modes with-first children numbered-from child-number plan-make plan-instruction units step-weight at-end needs-from plan-start plan-step plan-end plan hold admit settle among decide edited written splice stays places changes apply taken call after after-all outcome-number calls-of-kind calls-in line lines joined digits-within digits followed totals closing lines-from instruction-fields
+unfolding body-of footprint-of instruction-of total adds count-body count-from counts task-count no-modes never fixed-weights weight-of root-modes root initial every any only ahead queue behind-writer compatible allowed access-fault unless-fault plan-load plan-store plan-wait passed-over targets all-targets merged unless-denied grant child-modes with-first children numbered-from child-number plan-make plan-instruction units step-weight at-end needs-from plan-start plan-step plan-end plan hold admit settle among decide edited written splice stays places changes apply taken call after after-all outcome-number calls-of-kind calls-in line lines joined digits-within digits followed totals closing lines-from instruction-fields
 P-run = refl
 
 pub P-prints : transcript P-bytes P-library P-input ≡ P-lines

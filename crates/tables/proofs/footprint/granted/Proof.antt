@@ -1,9 +1,9 @@
 -- The first j lines are granted.
 -- Assumes nothing.
 use Prim.Native.Nat.{_+_, _*_, _-_, _≤_, _<_}
-use mathlib.Core.Path.{_≡_, sym, subst, _∙_}
+use mathlib.Core.Path.{_≡_, sym, ap, subst, _∙_}
 use native.Mathlib.Omega.{arith}
-use lib.ListN.{length, getD}
+use lib.ListN.{length, getD, set}
 use Rattle.tasklist.specs.declared.Line.{Line}
 use Rattle.tasklist.specs.Accepted.{blank-line}
 use Rattle.tasklist.specs.TaskList.{footprint-of}
@@ -12,7 +12,9 @@ use Rattle.tasklist.proofs.Line.{the-type as the-line}
 use Rattle.tasklist.proofs.PlaceLaws.{length-lowered}
 use Rattle.listing.proofs.AccessLaws.{footprint-size-is, line-is}
 use Rattle.semantics.specs.Run.{no-modes}
-use Rattle.tables.proofs.GrantLaws.{Given, given-none, given-more, given-denied, given-all, fault-of}
+use Rattle.semantics.specs.Access.{access-fault}
+use Rattle.semantics.specs.Footprint.{merged}
+use Rattle.tables.proofs.GrantLaws.{Given, given-none, given-more, given-denied, given-all}
 use borrow.Author.Needs.{needs}
 use Rattle.tables.proofs.footprint.granted.Statement.{statement}
 use Rattle.tables.proofs.footprint.granted.Tie as tie
@@ -60,29 +62,30 @@ mode-of-requires c κs = search needs
 mode-in-requires : tie.Need-mode-in-requires Inv-loop μ-loop
 mode-in-requires c κs = search needs
 
-mode-in-requires-2 : tie.Need-mode-in-requires-2 Inv-loop μ-loop
-mode-in-requires-2 c κs = search needs
-
-line-fault-requires : tie.Need-line-fault-requires Inv-loop μ-loop
-line-fault-requires c κs = search needs
+access-fault-requires : tie.Need-access-fault-requires Inv-loop μ-loop
+access-fault-requires c κs = search needs
 
 returns : tie.Need-returns Inv-loop μ-loop
 returns c =
-    let start = c .before .before .before .before .before .before .before .before .before .before .before .before in
+    let start = c .before .before .before .before .before .before .before .before .before .before .before in
     let a = start .args in
-    let at = c .before .before .before .before .before .before .before .before .loop in
-    let place = c .before .before .before .before .before .location-of in
-    let asked = c .before .before .before .before .mode-of in
-    let mine = c .before .before .before .mode-in in
-    let earlier = c .before .before .mode-in2 in
-    let fault = c .before .line-fault in
+    let at = c .before .before .before .before .before .before .before .loop in
+    let place = c .before .before .before .before .location-of in
+    let asked = c .before .before .before .mode-of in
+    let mine = c .before .before .mode-in in
+    let fault = c .before .access-fault in
     let line : Line = getD (a .t1 .lines) (8 * a .footprint + at .j) blank-line in
     let lines : length (a .t1 .lines) ≡ 256 = length-lowered (the-line .to) (a .t1 .lines) 256 (start .good .0 .1 .1 .1 .1 .1 .1 .0 .1 .0 .1) in
     let inside : at .j < length (footprint-of (list-of (a .t1)) (a .footprint)) = omega arith in
     given-denied (a .registers) (a .own) (footprint-of (list-of (a .t1)) (a .footprint)) (at .modes) (at .j) (place .result) (asked .result) (fault .result) line
     inside (line-is (a .t1) (a .footprint) (search needs) lines (at .j) inside blank-line blank-line) (place .ensures) (asked .ensures)
-    (fault-of (a .own) (at .modes) (place .result) (asked .result) (mine .result) (earlier .result) (fault .result)
-    (fault .ensures) (mine .ensures) (earlier .ensures)) (at .inv .4) (c .if1 .taken)
+    (fault .ensures ∙ ap (λ m. access-fault m (asked .result)) (mine .ensures)) (at .inv .4) (c .if1 .taken)
+
+mode-in-requires-2 : tie.Need-mode-in-requires-2 Inv-loop μ-loop
+mode-in-requires-2 c κs = search needs
+
+merged-mode-requires : tie.Need-merged-mode-requires Inv-loop μ-loop
+merged-mode-requires c κs = search needs
 
 with-mode-requires : tie.Need-with-mode-requires Inv-loop μ-loop
 with-mode-requires c κs = search needs
@@ -95,14 +98,15 @@ loop-less c = search needs
 
 loop-again : tie.Need-loop-again Inv-loop μ-loop
 loop-again c =
-    let start = c .before .before .before .before .before .before .before .before .before .before .before .before .before in
+    let start = c .before .before .before .before .before .before .before .before .before .before .before .before .before .before in
     let a = start .args in
-    let at = c .before .before .before .before .before .before .before .before .before .loop in
-    let place = c .before .before .before .before .before .before .location-of in
-    let asked = c .before .before .before .before .before .mode-of in
-    let mine = c .before .before .before .before .mode-in in
-    let earlier = c .before .before .before .mode-in2 in
-    let fault = c .before .before .line-fault in
+    let at = c .before .before .before .before .before .before .before .before .before .before .loop in
+    let place = c .before .before .before .before .before .before .before .location-of in
+    let asked = c .before .before .before .before .before .before .mode-of in
+    let mine = c .before .before .before .before .before .mode-in in
+    let fault = c .before .before .before .before .access-fault in
+    let earlier = c .before .before .mode-in2 in
+    let mode = c .before .merged-mode in
     let line : Line = getD (a .t1 .lines) (8 * a .footprint + at .j) blank-line in
     let lines : length (a .t1 .lines) ≡ 256 = length-lowered (the-line .to) (a .t1 .lines) 256 (start .good .0 .1 .1 .1 .1 .1 .1 .0 .1 .0 .1) in
     let inside : at .j < length (footprint-of (list-of (a .t1)) (a .footprint)) = omega arith in (
@@ -110,11 +114,11 @@ loop-again c =
       search needs,
       search needs,
       at .inv .3,
-      subst (λ m. Given (a .registers) (a .own) (footprint-of (list-of (a .t1)) (a .footprint)) m (at .j + 1)) (sym (c .with-mode .ensures))
+      subst (λ m. Given (a .registers) (a .own) (footprint-of (list-of (a .t1)) (a .footprint)) m (at .j + 1))
+          (sym (c .with-mode .ensures ∙ ap (set (at .modes) (place .result)) (mode .ensures ∙ ap (λ m. merged m (asked .result)) (earlier .ensures))))
           (given-more (a .registers) (a .own) (footprint-of (list-of (a .t1)) (a .footprint)) (at .modes) (at .j) (place .result) (asked .result) (fault .result) line
           inside (line-is (a .t1) (a .footprint) (search needs) lines (at .j) inside blank-line blank-line) (place .ensures) (asked .ensures)
-          (fault-of (a .own) (at .modes) (place .result) (asked .result) (mine .result) (earlier .result) (fault .result)
-          (fault .ensures) (mine .ensures) (earlier .ensures)) (at .inv .4) (c .before .if1 .left)),
+          (fault .ensures ∙ ap (λ m. access-fault m (asked .result)) (mine .ensures)) (at .inv .4) (c .before .before .before .if1 .left)),
     )
 
 returns-2 : tie.Need-returns-2 Inv-loop μ-loop
@@ -138,9 +142,10 @@ granted-spec =
     location-of-requires
     mode-of-requires
     mode-in-requires
-    mode-in-requires-2
-    line-fault-requires
+    access-fault-requires
     returns
+    mode-in-requires-2
+    merged-mode-requires
     with-mode-requires
     add-j
     loop-less

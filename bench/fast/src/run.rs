@@ -110,7 +110,8 @@ impl Job<'_> {
         }
     }
 
-    /// The modes of a footprint, or its fault: "1, 2, then 3 against earlier lines".
+    /// The modes of a footprint, or its fault: "Lines are still tested for faults 1 and 2 in turn." Mode write is above read,
+    /// so that "the common mode, or (...) write where the modes differ" is the higher one.
     fn granted(
         &self,
         own: &[u8; 64],
@@ -132,10 +133,7 @@ impl Job<'_> {
                 return fault;
             }
             let mode = &mut child[entry as usize & 63];
-            if *mode != 0 {
-                return 3;
-            }
-            *mode = 1 + writes as u8;
+            *mode = (*mode).max(1 + writes as u8);
         }
         0
     }

@@ -172,7 +172,7 @@ pub fn list_of_shape(rng: &mut Rng, shape: &Shape) -> TaskList {
     list
 }
 
-/// Lines drawn at random, or a weaker copy of an earlier footprint, or distinct entries.
+/// Lines drawn at random, or a weaker copy of an earlier footprint, or mostly distinct entries.
 fn random_footprint(rng: &mut Rng, shape: &Shape, earlier: &[Vec<Line>]) -> Vec<Line> {
     let count = if shape.full {
         shape.lines
@@ -221,7 +221,9 @@ fn random_footprint(rng: &mut Rng, shape: &Shape, earlier: &[Vec<Line>]) -> Vec<
                 value: registers.pop().unwrap(),
             });
         } else {
-            let location = locations[i % locations.len()];
+            // #106: rarely the entry of an earlier line.
+            let place = if rng.percent(10) { rng.below(i + 1) } else { i };
+            let location = locations[place % locations.len()];
             footprint.push(Line {
                 kind: writes,
                 value: location as u8,
@@ -265,7 +267,8 @@ fn likely_modes(list: &TaskList, homes: &[Option<usize>], s: usize) -> Vec<u8> {
     if let Some(f) = homes[s] {
         for line in &list.footprints[f] {
             if line.kind < 2 {
-                modes[line.value as usize] = line.kind + 1;
+                let mode = &mut modes[line.value as usize];
+                *mode = (*mode).max(line.kind + 1);
             }
         }
     }
@@ -407,12 +410,14 @@ fn spawn_group(rng: &mut Rng, draft: &Draft, room: u64) -> Vec<Instruction> {
         children = draw_children(rng, draft, footprint, room / draft.counts[a], tame);
     }
     if tame {
+        // Two lines may share an entry (#106), or be kept apart.
+        let apart = rng.percent(70);
         let mut used = Vec::new();
         for line in &list.footprints[footprint] {
-            if line.kind < 2 {
+            if apart && line.kind < 2 {
                 used.push(line.value as usize);
             }
-            if by_child(line) {
+            if apart && by_child(line) {
                 used.extend(0..children.unwrap_or(0));
             }
         }
@@ -424,7 +429,9 @@ fn spawn_group(rng: &mut Rng, draft: &Draft, room: u64) -> Vec<Instruction> {
                     .collect();
                 if !free.is_empty() {
                     let location = rng.pick(&free);
-                    used.push(location);
+                    if apart {
+                        used.push(location);
+                    }
                     group.push(Instruction::Const {
                         a: line.value,
                         value: location as u16,
@@ -451,8 +458,7 @@ fn by_child(line: &Line) -> bool {
 }
 
 /// How many children a fan with this footprint has, at most `room`: few, or the most; where it is tame,
-/// only such whose entry by R0 is one that the spawner has and that no other line names. None where
-/// there is no such number.
+/// only such whose entry by R0 is one that the spawner has. None where there is no such number.
 fn draw_children(
     rng: &mut Rng,
     draft: &Draft,
@@ -463,10 +469,7 @@ fn draw_children(
     let lines = &draft.list.footprints[footprint];
     let mut most = room.min(16) as usize;
     for line in lines.iter().filter(|line| tame && by_child(line)) {
-        let good = |i: usize| {
-            let named = |other: &Line| other.kind < 2 && other.value as usize == i;
-            i < draft.list.locations && draft.own[i] >= line.kind - 1 && !lines.iter().any(named)
-        };
+        let good = |i: usize| i < draft.list.locations && draft.own[i] >= line.kind - 1;
         most = (0..most).take_while(|i| good(*i)).count();
     }
     if most == 0 {

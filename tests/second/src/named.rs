@@ -97,6 +97,7 @@ pub fn named_cases() -> Vec<Case> {
     cases.extend(empty_files());
     cases.extend(readers_and_writers());
     cases.extend(faults());
+    cases.extend(named_twice());
     cases.extend(large_numbers());
     cases.extend(trees());
     cases.extend(fans());
@@ -320,25 +321,12 @@ fn faults() -> Vec<Case> {
             "start 0, step 0, step 0, start 1, start 2, step 2, end 2",
         ));
     }
-    // An entry named twice.
-    for lines in [
-        [read_line(0), read_line(0)],
-        [read_line(0), write_line(0)],
-        [write_line(0), read_line(0)],
-        [write_line(0), write_line(0)],
-    ] {
-        let bytes = list(2, &[&lines], &[&[spawn(1, 0), constant(0, 1)], &[]]);
-        cases.push(case(
-            &bytes,
-            &LIBRARY_P,
-            "start 0, step 0, start 1, step 0, end 0",
-        ));
-    }
     // Lines in turn; the spawner's own mode is read at 0, none at 1.
     let by_register = Line { kind: 2, value: 0 };
-    let lines: [&[Line]; 5] = [
+    let lines: [&[Line]; 6] = [
         &[read_line(0), write_line(0)],
         &[read_line(0), read_line(0), read_line(1)],
+        &[read_line(0), read_line(0), write_line(0), read_line(1)],
         &[read_line(1), write_line(0)],
         &[read_line(0), by_register],
         &[by_register],
@@ -352,6 +340,74 @@ fn faults() -> Vec<Case> {
         cases.push(whole(&bytes, &LIBRARY_P));
     }
     cases
+}
+
+/// #106: entries that are named twice and more often.
+fn named_twice() -> Vec<Case> {
+    let load = Instruction::Load { a: 1, b: 0 };
+    let store = Instruction::Store { a: 0, b: 1 };
+    let by_register = |kind| Line { kind, value: 1 };
+    let mut cases = Vec::new();
+    // The entry counts once, in each pair of modes; its child spawns with the same lines again.
+    for lines in pairs_of_lines() {
+        let bytes = list(
+            2,
+            &[&lines],
+            &[
+                &[spawn(1, 0), spawn(1, 0), constant(0, 1)],
+                &[load, store, spawn(2, 0)],
+                &[],
+            ],
+        );
+        cases.push(case(
+            &bytes,
+            &LIBRARY_P,
+            "start 0, step 0, step 0, start 3, start 1, step 0, step 1, step 1, step 1, end 1, start 3, \
+             start 2, end 2, end 0",
+        ));
+        cases.push(whole(&bytes, &LIBRARY_P));
+    }
+    // Two strengths that share an entry by their registers, and that don't; three lines and eight.
+    let lines: [&[Line]; 5] = [
+        &[by_register(2), Line { kind: 2, value: 2 }],
+        &[by_register(3), Line { kind: 2, value: 2 }],
+        &[read_line(1), by_register(2), Line { kind: 3, value: 2 }],
+        &[write_line(1), by_register(2), read_line(0), by_register(2)],
+        &[READ_BY_CHILD; 8],
+    ];
+    for lines in lines {
+        for strengths in [[1, 1], [0, 1], [1, 0]] {
+            let bytes = list(
+                2,
+                &[lines],
+                &[
+                    &[
+                        constant(1, strengths[0]),
+                        constant(2, strengths[1]),
+                        spawn(1, 0),
+                        fan(1, 0, 2),
+                    ],
+                    &[load, Instruction::Store { a: 1, b: 1 }],
+                ],
+            );
+            cases.push(case(
+                &bytes,
+                &LIBRARY_P,
+                "start 0, step 0, step 0, step 0, step 0, start 3, start 2, start 1",
+            ));
+        }
+    }
+    cases
+}
+
+/// #106: entry 0 named twice, in each pair of modes.
+pub fn pairs_of_lines() -> [[Line; 2]; 4] {
+    [
+        [read_line(0), read_line(0)],
+        [read_line(0), write_line(0)],
+        [write_line(0), read_line(0)],
+        [write_line(0), write_line(0)],
+    ]
 }
 
 /// Registers that hold numbers far above C.
@@ -673,11 +729,11 @@ fn fan_faults() -> Vec<Case> {
         (0, &[WRITE_BY_CHILD]),
         (0, &[read_line(1), WRITE_BY_CHILD]),
         (1, &[WRITE_BY_CHILD]),
-        // Fault 3 of child 0, then of child 1.
+        // #106: child 0 names an entry twice, then child 1 does; fault 1 of child 2 stays.
         (0, &[READ_BY_CHILD, read_line(0)]),
-        (0, &[READ_BY_CHILD, read_line(1)]),
-        // Fault 3 of child 0 before fault 1 of child 2, though the latter has it at an earlier line.
-        (0, &[READ_BY_CHILD, read_line(0), read_line(1)]),
+        (0, &[READ_BY_CHILD, write_line(1)]),
+        // Fault 2 of child 0 before fault 1 of child 2, though the latter has it at an earlier line.
+        (0, &[READ_BY_CHILD, read_line(0), write_line(0)]),
         // A line that names another register: the same for each child.
         (0, &[Line { kind: 2, value: 1 }]),
         (0, &[Line { kind: 3, value: 2 }, READ_BY_CHILD]),

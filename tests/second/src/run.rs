@@ -339,8 +339,7 @@ fn step_may_go(run: &Run, task: usize, instruction: &Instruction) -> bool {
 }
 
 /// The fault of a step, 0 if it has none. "1: entry not in the job's footprint (C and above
-/// included). 2: store, or a write line, where its own mode is read. 3: a footprint names an entry
-/// twice, in any modes."
+/// included). 2: store, or a write line, where its own mode is read." #106: "Fault 3 no longer occurs".
 fn fault_of(run: &Run, task: usize, instruction: &Instruction) -> u8 {
     let registers = run.records[task].registers;
     match instruction {
@@ -391,19 +390,15 @@ fn registers_of_child(run: &Run, task: usize, i: u8) -> [u32; 4] {
     registers
 }
 
-/// A child with these registers. "Lines are tested in turn: 1, 2, then 3 against earlier lines."
+/// A child with these registers. #106: "Lines are still tested for faults 1 and 2 in turn", each by the
+/// spawner's own mode.
 fn fault_of_child(run: &Run, task: usize, footprint: usize, registers: &[u32; 4]) -> u8 {
-    let mut earlier: Vec<u32> = Vec::new();
     for line in &run.list.footprints[footprint] {
         let number = line_location(line, registers);
         let fault = fault_of_use(run, task, number, line_mode(line) == WRITE);
         if fault != 0 {
             return fault;
         }
-        if earlier.contains(&number) {
-            return 3;
-        }
-        earlier.push(number);
     }
     0
 }
@@ -420,6 +415,30 @@ fn line_location(line: &Line, registers: &[u32; 4]) -> u32 {
 fn line_mode(line: &Line) -> u8 {
     match line.kind {
         0 | 2 => READ,
+        _ => WRITE,
+    }
+}
+
+/// "its footprint's modes", none where no line names the entry. Only asked when no line faults.
+fn footprint_modes(lines: &[Line], registers: &[u32; 4]) -> [u8; MODES] {
+    let mut modes = [NONE; MODES];
+    for (location, mode) in modes.iter_mut().enumerate() {
+        let named: Vec<u8> = lines
+            .iter()
+            .filter(|line| line_location(line, registers) as usize == location)
+            .map(line_mode)
+            .collect();
+        *mode = mode_of_lines(&named);
+    }
+    modes
+}
+
+/// #106: "An entry named twice now counts once: with the common mode, or with write where the modes
+/// differ."
+fn mode_of_lines(named: &[u8]) -> u8 {
+    match named {
+        [] => NONE,
+        [first, others @ ..] if others.iter().all(|other| other == first) => *first,
         _ => WRITE,
     }
 }
@@ -539,9 +558,7 @@ fn make_child(
     record.state = WAITING;
     record.body = body;
     record.registers = registers;
-    for line in &run.list.footprints[footprint] {
-        record.modes[line_location(line, &registers) as usize] = line_mode(line);
-    }
+    record.modes = footprint_modes(&run.list.footprints[footprint], &registers);
     run.records[child] = record;
     let place_in_order = run.order.iter().position(|other| *other == task).unwrap();
     run.order.insert(place_in_order, child);

@@ -59,7 +59,8 @@ fn the_stored_cases_reach_every_answer() {
     for line in text.lines().filter(|line| line.starts_with("hand record ")) {
         faults.push(line.split(' ').nth(11).unwrap().parse().unwrap());
     }
-    assert_eq!(distinct(faults), [0, 1, 2, 3]);
+    // #106: fault 3 no longer occurs.
+    assert_eq!(distinct(faults), [0, 1, 2]);
     assert!(text.contains("write 4805 4a48"));
     // #104: lists with fans, named ones and random ones.
     let fans = |cases: &[Case]| cases.iter().filter(|case| has_fan(case)).count();

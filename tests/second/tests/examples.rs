@@ -4,7 +4,7 @@
 use second::cases::{doubling_list, fan_tree, library_bytes, EXAMPLE_P};
 use second::list::task_counts;
 use second::named::{
-    constant, fan, fan_of_strengths, fans_and_spawns, list, read_line, spawn,
+    constant, fan, fan_of_strengths, fans_and_spawns, list, pairs_of_lines, read_line, spawn,
     starts_behind_reader_and_writer, steps_behind_reader_and_writer, write_line, LIBRARY_P,
     READ_BY_CHILD, WRITE_BY_CHILD,
 };
@@ -331,34 +331,85 @@ fn load_at_c_is_fault_1() {
     }
 }
 
+/// #106: "Fault 3 no longer occurs, and its example becomes an accepted spawn."
 #[test]
-fn an_entry_named_twice_is_fault_3() {
-    for lines in [
-        [read_line(0), read_line(0)],
-        [read_line(0), write_line(0)],
-        [write_line(0), write_line(0)],
-    ] {
+fn an_entry_named_twice_counts_once() {
+    for (lines, mode) in pairs_of_lines().into_iter().zip([1, 2, 2, 2]) {
         let bytes = list(2, &[&lines], &[&[spawn(1, 0), constant(0, 1)], &[]]);
         let mut run = open(&bytes, &LIBRARY_P).unwrap();
         start_and_step(&mut run, 0, 1);
-        assert_eq!(run.records[0].fault, 3);
-        assert_eq!(run.order, [0]);
-        assert_eq!(run.records[1], never_made());
+        assert_eq!((run.records[0].fault, run.records[0].pc), (0, 1));
+        assert_eq!(run.order, [1, 0]);
+        let mut child = never_made();
+        child.state = WAITING;
+        child.body = 1;
+        child.modes[0] = mode;
+        assert_eq!(record(&run, 1).unwrap(), child);
+        assert_eq!(queue_of(&run, 0), [1 + 256 * mode as u16, 512]);
+        assert_eq!(queue_of(&run, 1), [512]);
         let run = hand_run(&bytes, &LIBRARY_P).unwrap();
-        assert_eq!((run.calls, run.weight), (3, 15));
-        assert_eq!(run.records[1], never_made());
+        assert_eq!((run.calls, run.weight), (6, 23));
+        assert_eq!(run.records[1].state, ENDED);
+    }
+}
+
+/// #106: three lines and more: one common mode, else write, wherever the write line stands; the other
+/// entry keeps its own mode.
+#[test]
+fn an_entry_named_more_than_twice() {
+    for (kinds, mode) in [
+        (&[0, 0, 0][..], 1),
+        (&[0, 0, 1], 2),
+        (&[0, 1, 0], 2),
+        (&[1, 0, 0], 2),
+        (&[1, 1, 1], 2),
+        (&[2, 0, 2, 0, 2, 0, 2], 1),
+        (&[2, 0, 2, 0, 2, 0, 3], 2),
+        (&[3, 0, 2, 0, 2, 0, 2], 2),
+        (&[2, 3, 0], 2),
+    ] {
+        let mut lines: Vec<Line> = kinds
+            .iter()
+            .map(|kind| Line {
+                kind: *kind,
+                value: 1,
+            })
+            .collect();
+        lines.insert(1, read_line(0));
+        let bytes = list(2, &[&lines], &[&[constant(1, 1), spawn(1, 0)], &[]]);
+        let run = hand_run(&bytes, &LIBRARY_P).unwrap();
+        assert_eq!(run.records[0].fault, 0);
+        assert_eq!(run.records[1].modes[..3], [1, mode, 0], "{kinds:?}");
+    }
+}
+
+/// #106: lines are tested by the spawner's mode, each for itself: one that may only read can't be given
+/// write by naming the entry twice, and one that may write is not held to what an earlier line names.
+#[test]
+fn lines_are_tested_by_the_mode_of_the_spawner() {
+    for (own, lines, fault) in [
+        (read_line(0), [read_line(0), read_line(0)], 0),
+        (read_line(0), [read_line(0), write_line(0)], 2),
+        (read_line(0), [write_line(0), read_line(0)], 2),
+        (write_line(0), [read_line(0), write_line(0)], 0),
+        (read_line(1), [read_line(0), write_line(0)], 1),
+    ] {
+        let bytes = list(2, &[&[own], &lines], &[&[spawn(1, 0)], &[spawn(2, 1)], &[]]);
+        let run = hand_run(&bytes, &LIBRARY_P).unwrap();
+        assert_eq!(run.records[1].fault, fault, "{own:?} {lines:?}");
     }
 }
 
 #[test]
 fn lines_are_tested_in_turn() {
     let by_register = Line { kind: 2, value: 0 };
-    let cases: [(&[Line], u8); 5] = [
+    let cases: [(&[Line], u8); 6] = [
         // Own mode of the spawner: read 0, none at 1.
         (&[read_line(0), write_line(0)], 2),
-        (&[read_line(0), read_line(0), read_line(1)], 3),
+        (&[read_line(0), read_line(0), read_line(1)], 1),
+        (&[read_line(0), write_line(0), read_line(1)], 2),
         (&[read_line(1), write_line(0)], 1),
-        (&[read_line(0), by_register], 3),
+        (&[read_line(0), by_register], 0),
         (&[by_register], 0),
     ];
     for (lines, fault) in cases {
@@ -828,11 +879,13 @@ fn a_fan_makes_all_children_or_none() {
         (&[WRITE_BY_CHILD], 1, 2),
         (&[read_line(1), WRITE_BY_CHILD], 3, 2),
         (&[READ_BY_CHILD, read_line(1)], 1, 0),
-        // Child 1 names entry 1 twice, before child 2's fault 1.
-        (&[READ_BY_CHILD, read_line(1)], 3, 3),
+        // #106: child 1 names entry 1 twice, which is no fault; child 2's is.
+        (&[READ_BY_CHILD, read_line(1)], 2, 0),
+        (&[READ_BY_CHILD, read_line(1)], 3, 1),
         // Child 0's second line before child 2's first.
         (&[READ_BY_CHILD, write_line(0)], 3, 2),
-        (&[READ_BY_CHILD, read_line(0)], 3, 3),
+        (&[READ_BY_CHILD, read_line(0)], 2, 0),
+        (&[READ_BY_CHILD, read_line(0)], 3, 1),
         // The others by the spawner's registers.
         (&[Line { kind: 3, value: 1 }], 16, 0),
         (&[Line { kind: 3, value: 3 }], 16, 2),

@@ -50,9 +50,9 @@ struct Met {
     start_refusals: [u64; 21],
     step_refusals: [u64; 21],
     end_refusals: [u64; 21],
-    faults: [u64; 4],
+    faults: [u64; 3],
     /// By the fault of the step, 0 where it made its children.
-    fans: [u64; 4],
+    fans: [u64; 3],
     most_jobs: u64,
     most_in_order: usize,
 }
@@ -134,7 +134,7 @@ fn demand_3_on_random_lists() {
         met.most_jobs, met.most_in_order
     );
     println!("fans {:?}", met.fans);
-    for fault in 0..4 {
+    for fault in 0..3 {
         assert!(met.faults[fault] > 100);
         assert!(met.fans[fault] > 20);
     }
@@ -163,7 +163,70 @@ fn demand_3_on_a_tree_of_fans() {
         random_order(&mut Rng::new(seed), &bytes, &[0], &mut met);
     }
     assert_eq!(met.most_jobs, 128);
-    assert_eq!(met.fans, [180, 0, 0, 0]);
+    assert_eq!(met.fans, [180, 0, 0]);
+}
+
+/// #106: the mode of a child is never above its spawner's, whatever its lines name twice. After a step that
+/// made children, these stand directly ahead of their spawner. How often an entry was named once and
+/// more often, and was then given read and write.
+fn assert_modes(run: &Run, task: usize, made: usize, footprint: usize, met: &mut [[u64; 2]; 2]) {
+    let place = run.order.iter().position(|other| *other == task).unwrap();
+    for child in &run.order[place - made..place] {
+        let child = &run.records[*child];
+        for (entry, mode) in child.modes.iter().enumerate() {
+            assert!(*mode <= run.records[task].modes[entry]);
+            let named = |line: &&Line| match line.kind {
+                0 | 1 => line.value as usize == entry,
+                _ => child.registers[line.value as usize] as usize == entry,
+            };
+            let lines: Vec<&Line> = run.list.footprints[footprint]
+                .iter()
+                .filter(named)
+                .collect();
+            let writes = lines.iter().any(|line| line.kind % 2 == 1);
+            let expected = (!lines.is_empty()) as u8 + writes as u8;
+            assert_eq!(*mode, expected);
+            if !lines.is_empty() {
+                met[(lines.len() > 1) as usize][writes as usize] += 1;
+            }
+        }
+    }
+}
+
+#[test]
+fn modes_on_random_runs() {
+    let mut met = [[0; 2]; 2];
+    for seed in 0..1500 {
+        let mut rng = Rng::new(80_000 + seed);
+        let bytes = accepted_file(&mut rng);
+        let library = fitting_library(&mut rng, &bytes);
+        let strategy = rng.pick(&STRATEGIES);
+        let mut run = open(&bytes, &library).unwrap();
+        while let Some((kind, task)) = sensible_call(&mut rng, strategy, &run, 0) {
+            let task = task as usize;
+            let spawning = match (kind, kind == 1 && !at_its_end(&run, task)) {
+                (1, true) => Some(instruction_at(&run, task)),
+                _ => None,
+            };
+            assert_eq!(call(&mut run, kind, task as u32), Ok(()));
+            if kind == 2 || run.records[task].fault != 0 {
+                continue;
+            }
+            match spawning {
+                Some(Instruction::Spawn { footprint, .. }) => {
+                    assert_modes(&run, task, 1, footprint as usize, &mut met)
+                }
+                Some(Instruction::Fan {
+                    footprint,
+                    children,
+                    ..
+                }) => assert_modes(&run, task, children as usize, footprint as usize, &mut met),
+                _ => {}
+            }
+        }
+    }
+    println!("entries named once and more often, with read and with write {met:?}");
+    assert!(met.iter().flatten().all(|count| *count > 100));
 }
 
 /// #103 for one job that waits, or is to make a step: what a search finds and where it stops, by the

@@ -234,7 +234,7 @@ mod tests {
             .map(|event| event.fault)
             .filter(|fault| *fault != 0)
             .collect();
-        assert_eq!(faults, [1, 2, 3]);
+        assert_eq!(faults, [1, 2]);
         let refused: Vec<(&str, u32)> = events
             .iter()
             .filter(|event| event.answer != 0)

@@ -28,7 +28,8 @@ use Rattle.runtime.specs.declared.Opened.{Opened}
 use Rattle.runtime.specs.declared.OpenAnswer.the-variants as Opening
 use Rattle.runtime.specs.View.{tasks-from, model, SoundRun, blank-record, blank-run}
 use Rattle.runtime.specs.Asked.{open-number, OpenedAs}
-use Rattle.runtime.specs.Parts.{InitialOf, with-state}
+use Rattle.runtime.specs.Parts.{InitialOf}
+use Rattle.records.specs.Records.{with-state}
 use Rattle.runtime.proofs.ViewLaws.{same-run, tasks-never}
 
 -- "as check": the list is refused

@@ -1,4 +1,4 @@
-// Runs as values: the blank one, the initial one, and a run with one task's record and the order changed.
+// Runs as values: the blank one and the initial one.
 ghost use Prim.Native.Nat.{_+_, _-_, _≤_, _<_};
 ghost use mathlib.Core.Path.{_≡_};
 ghost use mathlib.Core.List.{_++_};

@@ -43,7 +43,8 @@ use Rattle.runtime.specs.declared.Run.{Run}
 use Rattle.runtime.specs.declared.Called.{Called}
 use Rattle.runtime.specs.View.{tasks-from, model, context-of, SoundRun, blank-record}
 use Rattle.runtime.specs.Calls.{call-of, decided, CalledAs, CallsMade}
-use Rattle.runtime.specs.Parts.{Placed, no-record, record-of, start-effect, end-effect, with-state, heavier}
+use Rattle.runtime.specs.Parts.{Placed, no-record, record-of, start-effect, end-effect, heavier}
+use Rattle.records.specs.Records.{with-state}
 use Rattle.runtime.specs.Steps.{WholeRun}
 use Rattle.runtime.proofs.ViewLaws.{same-run, tasks-set, task-is}
 

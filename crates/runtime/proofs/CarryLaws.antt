@@ -27,7 +27,8 @@ use Rattle.runtime.specs.declared.StepPlan.the-variants as Planned
 use Rattle.runtime.specs.View.{tasks-from, model, context-of, SoundRun}
 use Rattle.runtime.specs.Calls.{decided, CalledAs}
 use Rattle.runtime.specs.Parts.{Placed, record-of}
-use Rattle.runtime.specs.Steps.{planned, passed, failed, holding, WholeRun, Carries}
+use Rattle.runtime.specs.Steps.{planned, WholeRun, Carries}
+use Rattle.records.specs.Records.{passed, failed, holding}
 use Rattle.runtime.proofs.ViewLaws.{same-run}
 use Rattle.runtime.proofs.CallLaws.{applied, list-accepted, own-task, called-taken, own-effect, applied-model, applied-whole, splice-self}
 

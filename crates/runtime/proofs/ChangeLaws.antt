@@ -32,9 +32,12 @@ use Rattle.runtime.specs.declared.StepPlan.{StepPlan}
 use Rattle.runtime.specs.declared.StepPlan.the-variants as Planned
 use Rattle.runtime.specs.View.{model, context-of, SoundRun}
 use Rattle.runtime.specs.Calls.{call-of, decided, CalledAs, CallsMade}
-use Rattle.runtime.specs.Parts.{Placed, no-record, record-of, start-effect, end-effect, with-state}
-use Rattle.runtime.specs.Steps.{planned, passed, failed, holding, WholeRun, Carries}
-use Rattle.runtime.specs.Changes.{with-parts, ordered, finished, BodySize, kept, counted, put, child-record, with-children, with-made, ChangeOf, Makes, Fits}
+use Rattle.runtime.specs.Parts.{Placed, no-record, record-of, start-effect, end-effect}
+use Rattle.records.specs.Records.{with-state}
+use Rattle.runtime.specs.Steps.{planned, WholeRun, Carries}
+use Rattle.records.specs.Records.{passed, failed, holding}
+use Rattle.runtime.specs.Changes.{with-parts, ordered, finished, BodySize, kept, counted, put, with-children, with-made, ChangeOf, Makes, Fits}
+use Rattle.records.specs.Records.{child-record}
 use Rattle.runtime.proofs.CallLaws.{applied, EndedAs, own-task, one-call, called-refused, start-taken, end-taken}
 use Rattle.runtime.proofs.CarryLaws.{onward, putting, holds-back, step-taken, fault-carried, assign-carried, pass-carried, store-carried}
 

@@ -41,8 +41,10 @@ use Rattle.runtime.specs.declared.StepPlan.the-variants as Planned
 use Rattle.runtime.specs.View.{tasks-from, model, context-of, SoundRun}
 use Rattle.runtime.specs.Calls.{call-of, decided}
 use Rattle.runtime.specs.Parts.{Placed, record-of}
-use Rattle.runtime.specs.Steps.{planned, passed, failed, holding, newborn, WholeRun, Carries}
-use Rattle.runtime.specs.Changes.{child-record, with-children}
+use Rattle.runtime.specs.Steps.{planned, WholeRun, Carries}
+use Rattle.records.specs.Records.{passed, failed, holding, newborn}
+use Rattle.runtime.specs.Changes.{with-children}
+use Rattle.records.specs.Records.{child-record}
 use Rattle.runtime.proofs.ViewLaws.{same-run}
 use Rattle.runtime.proofs.CallLaws.{applied, list-accepted, own-task, own-effect}
 use Rattle.runtime.proofs.CarryLaws.{onward, tasks-born, same-effect, failed-task, onward-whole, own-carried, step-task, stepped-model, stepped-tasks}

@@ -25,7 +25,8 @@ use Rattle.runtime.specs.declared.StepPlan.the-variants as Planned
 use Rattle.runtime.specs.View.{SoundRun}
 use Rattle.runtime.specs.Calls.{decided}
 use Rattle.runtime.specs.Parts.{Placed, record-of, heavier}
-use Rattle.runtime.specs.Steps.{planned, passed, failed, holding, newborn, Carries}
+use Rattle.runtime.specs.Steps.{planned, Carries}
+use Rattle.records.specs.Records.{passed, failed, holding, newborn}
 use Rattle.runtime.specs.Changes.{with-parts, counted, put, with-children, with-made, Makes, Fits}
 use Rattle.runtime.proofs.CallLaws.{applied}
 use Rattle.runtime.proofs.MakeLaws.{denied-carried, denied-makes, granted-makes, made-carried}

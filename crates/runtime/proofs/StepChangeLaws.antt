@@ -25,7 +25,8 @@ use Rattle.runtime.specs.declared.StepPlan.the-variants as Planned
 use Rattle.runtime.specs.View.{SoundRun}
 use Rattle.runtime.specs.Calls.{decided, CalledAs}
 use Rattle.runtime.specs.Parts.{Placed, record-of}
-use Rattle.runtime.specs.Steps.{planned, passed, failed, holding, PlansIn}
+use Rattle.runtime.specs.Steps.{planned, PlansIn}
+use Rattle.records.specs.Records.{passed, failed, holding}
 use Rattle.runtime.specs.Changes.{with-parts, finished, kept, counted, put, with-children, with-made, ChangeOf, ReadyIn, SpawnedBy, SteppedBy}
 use Rattle.runtime.proofs.CallLaws.{called-refused}
 use Rattle.runtime.proofs.StepLaws.{step-settled}

@@ -55,21 +55,6 @@ pub wrapped-difference :
     (a b r : ℕ) → a < 2 ^ 32 → b < 2 ^ 32 → r < 2 ^ 32 → (r + b) % 2 ^ 32 ≡ a → r ≡ (a + 2 ^ 32 - b) % 2 ^ 32
 wrapped-difference a b r ha hb hr h = omega arith
 
-pub is-less : (a b : ℕ) → a < b → _≡_ {A = ℕ} 1 (cond (ltb a b) 1 0)
-is-less a b h = sym (ap {B = ℕ} (λ (t : Bool). cond t 1 0) (lt-ltb a b h))
-
-pub not-less : (a b : ℕ) → b ≤ a → _≡_ {A = ℕ} 0 (cond (ltb a b) 1 0)
-not-less a b h = sym (ap {B = ℕ} (λ (t : Bool). cond t 1 0) (le-ltb a b h))
-
-pub over-zero : (a b : ℕ) → a ≡ 0 → b ≡ passed-over a b
-unfolding passed-over
-over-zero a b h = sym (ap (λ x. passed-over x b) h)
-
-pub over-none : (a b : ℕ) → a ≢ 0 → 0 ≡ passed-over a b
-unfolding passed-over
-over-none zero b h = absurd (h refl)
-over-none (suc a) b h = refl
-
 -- what comes of an access that has no fault, by what the tasks ahead do to it
 abbrev pub AccessBy : Run → ℕ → ℕ → ℕ → ℕ → Hold → Type 0
 AccessBy run n place a asked h =

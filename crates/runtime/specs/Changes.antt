@@ -16,8 +16,8 @@ use Rattle.semantics.specs.Plan.{Action, start, step, «end»}
 use Rattle.semantics.specs.Call.{refuse}
 use Rattle.semantics.specs.Sequential.{made-by}
 use Rattle.semantics.specs.Answers.{refusal-number}
-use Rattle.tables.specs.Grants.{child-registers}
 use Rattle.tables.specs.Children.{numbers}
+use Rattle.records.specs.Records.{child-record}
 use Rattle.runtime.specs.declared.Run.{Run}
 use Rattle.runtime.specs.declared.Change.{Change}
 use Rattle.runtime.specs.declared.Located.{Located}
@@ -123,19 +123,6 @@ put n c run =
       left = c .left;
       calls = (run .calls + c .calls) % 2 ^ 32;
       weight = (run .weight + c .weight) % 2 ^ 32;
-    }
-
--- request 104: "Child i has R0 = i": the record of child i, by that of the foremost, child 0
-abbrev pub child-record : ℕ → Record → Record
-child-record i t =
-    record {
-      state = t .state;
-      body = t .body;
-      pc = t .pc;
-      registers = child-registers i (t .registers);
-      steps = t .steps;
-      fault = t .fault;
-      weight = t .weight;
     }
 
 -- the records with those of the first k children written, the last of them first

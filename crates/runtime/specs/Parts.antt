@@ -16,6 +16,7 @@ use Rattle.semantics.specs.Call.{among, refuse, accept}
 use Rattle.semantics.specs.Answers.{refusal-number}
 use Rattle.arrays.specs.Places.{without}
 use Rattle.arrays.specs.Rows.{row}
+use Rattle.records.specs.Records.{with-state}
 use Rattle.runtime.specs.declared.Run.{Run}
 use Rattle.runtime.specs.declared.Located.{Located}
 use Rattle.runtime.specs.declared.Located.the-variants.{Refused, At}
@@ -51,19 +52,6 @@ start-effect run n = own (start-weight (context-of run)) (in-state 2 (task-of (m
 
 abbrev pub end-effect : Run → ℕ → Effect
 end-effect run n = leaving (end-weight (context-of run)) (task-of (model run) n)
-
--- a record with another state
-abbrev pub with-state : ℕ → Record → Record
-with-state s t =
-    record {
-      state = s;
-      body = t .body;
-      pc = t .pc;
-      registers = t .registers;
-      steps = t .steps;
-      fault = t .fault;
-      weight = t .weight;
-    }
 
 -- a record with this much more weight, as 32 bits hold it
 abbrev pub heavier : ℕ → Record → Record

@@ -125,56 +125,6 @@ abbrev pub WaitIn : List ℕ → List ℕ → List ℕ → List ℕ → ℕ → 
 WaitIn order modes memory registers n place i p =
     (run : Run) → run .memory ≡ memory → record-of run n .registers ≡ registers → WaitAs (looking order modes run) n place i p
 
--- "place rises by 1 plus what a skip passes over, instructions done by 1", as 32 bits hold them
-abbrev pub passed : ℕ → Record → Record
-passed over t =
-    record {
-      state = t .state;
-      body = t .body;
-      pc = (t .pc + (1 + over)) % 2 ^ 32;
-      registers = t .registers;
-      steps = (t .steps + 1) % 2 ^ 32;
-      fault = t .fault;
-      weight = t .weight;
-    }
-
-abbrev pub failed : ℕ → Record → Record
-failed k t =
-    record {
-      state = t .state;
-      body = t .body;
-      pc = t .pc;
-      registers = t .registers;
-      steps = (t .steps + 1) % 2 ^ 32;
-      fault = k;
-      weight = t .weight;
-    }
-
-abbrev pub holding : ℕ → ℕ → Record → Record
-holding a v t =
-    record {
-      state = t .state;
-      body = t .body;
-      pc = t .pc;
-      registers = set (t .registers) a v;
-      steps = t .steps;
-      fault = t .fault;
-      weight = t .weight;
-    }
-
--- "the new job waiting, at place 0, with its sheet .. and a copy of the registers"
-abbrev pub newborn : ℕ → Record → Record
-newborn s t =
-    record {
-      state = 1;
-      body = s;
-      pc = 0;
-      registers = t .registers;
-      steps = 0;
-      fault = 0;
-      weight = 0;
-    }
-
 -- the arrays are whole
 pub record WholeRun (run : Run) : Type 0 where
   pub memory : length (run .memory) ≡ 64

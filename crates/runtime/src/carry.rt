@@ -2,106 +2,20 @@
 ghost use Prim.Native.Nat.{_<_};
 ghost use mathlib.Core.Path.{_≡_};
 ghost use lib.ListN.{length, set};
-ghost use Rattle.runtime.specs.Parts.{with-state};
-ghost use Rattle.runtime.specs.Steps.{passed, failed, holding, newborn};
-ghost use Rattle.runtime.specs.Changes.{kept, counted, child-record, SpawnedBy};
+ghost use Rattle.records.specs.Records.{with-state};
+ghost use Rattle.records.specs.Records.{passed, failed, holding, newborn};
+ghost use Rattle.runtime.specs.Changes.{kept, counted, SpawnedBy};
+ghost use Rattle.records.specs.Records.{child-record};
 use crate::Change;
+use records::failed;
+use records::holding;
+use records::newborn;
+use records::passed;
 use semantics::Answer;
 use semantics::CallRefusal;
 use semantics::Record;
 use tables::Grant;
 use tasklist::Tables;
-
-// "place rises by 1 plus what a skip passes over, instructions done by 1"
-pub fn passed(own: Record, over: u8) -> Record
-    ensures { λ r. ⌜ (r ≡ passed over own) × (over < 256) ⌝ }
-{
-    let count = 1 + (over as u32);
-    let mut next = own;
-    next.pc = std::num::wrapping_add_u32(own.pc, count);
-    next.steps = std::num::wrapping_add_u32(own.steps, 1);
-    next
-}
-
-// "done rises, but no place, register, entry or other job changes, and the job is then at its end"
-pub fn failed(own: Record, fault: u8) -> Record
-    ensures { λ r. ⌜ r ≡ failed fault own ⌝ }
-{
-    let mut next = own;
-    next.steps = std::num::wrapping_add_u32(own.steps, 1);
-    next.fault = fault;
-    next
-}
-
-// The registers with another value in one of them; the same where there is no such register.
-fn with_register(registers: [u32; 4], target: u8, value: u32) -> [u32; 4]
-    ensures { λ r. ⌜ r ≡ set registers target value ⌝ }
-{
-    let at = target as usize;
-    if 3 < at {
-        return registers;
-    }
-    let mut out = registers;
-    out[at] = value;
-    out
-}
-
-// A record with a value in a register.
-pub fn holding(own: Record, target: u8, value: u32) -> Record
-    ensures { λ r. ⌜ r ≡ holding target value own ⌝ }
-{
-    let before = own.registers;
-    let registers = with_register(before, target, value);
-    let mut next = own;
-    next.registers = registers;
-    next
-}
-
-// Puts a number at a location; leaves the memory where there is no such location.
-pub fn store(memory: &mut [u32; 64], location: usize, value: u32)
-    ensures { λ r. ⌜ (length (now (memory .entry)) ≡ 64 → now (memory .exit) ≡ set (now (memory .entry)) location value) ⌝ }
-{
-    if 63 < location {
-        return;
-    }
-    memory[location] = value;
-}
-
-// "the new job waiting, at place 0, with its sheet .. and a copy of the registers"
-fn newborn(own: Record, body: u8) -> Record
-    ensures { λ r. ⌜ r ≡ newborn body own ⌝ }
-{
-    let registers = own.registers;
-    Record {
-        state: 1,
-        body,
-        pc: 0,
-        registers,
-        steps: 0,
-        fault: 0,
-        weight: 0,
-    }
-}
-
-// Request 104: "Child i has R0 = i." The record of child i, by that of the foremost.
-pub fn child_record(made: Record, i: u32) -> Record
-    ensures { λ r. ⌜ r ≡ child-record i made ⌝ }
-{
-    let before = made.registers;
-    let registers = tables::child_registers(before, i);
-    let mut next = made;
-    next.registers = registers;
-    next
-}
-
-// A record with another state.
-pub fn in_state(own: Record, state: u8) -> Record
-    ensures { λ r. ⌜ r ≡ with-state state own ⌝ }
-{
-    let mut next = own;
-    next.state = state;
-    next
-}
 
 // A call that is refused.
 pub fn unchanged(own: Record, left: usize, refusal: CallRefusal) -> Change

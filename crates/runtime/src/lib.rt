@@ -125,5 +125,4 @@ mod step;
 pub use calls::at_end;
 pub use calls::end_change;
 pub use calls::start_change;
-pub use carry::child_record;
 pub use step::step_change;

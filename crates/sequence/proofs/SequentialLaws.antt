@@ -27,7 +27,8 @@ use Rattle.runtime.specs.View.{model, context-of, SoundRun}
 use Rattle.runtime.specs.Calls.{call-of, decided, CallsMade}
 use Rattle.runtime.specs.Parts.{record-of}
 use Rattle.runtime.specs.Asked.{open-number, OpenedAs}
-use Rattle.runtime.specs.Changes.{BodySize, put, child-record, with-children, with-made, StartedBy, EndedBy, SteppedBy, Makes}
+use Rattle.runtime.specs.Changes.{BodySize, put, with-children, with-made, StartedBy, EndedBy, SteppedBy, Makes}
+use Rattle.records.specs.Records.{child-record}
 use Rattle.tables.specs.Children.{numbers}
 use Rattle.sequence.specs.declared.Progress.{Progress}
 use Rattle.sequence.specs.Replays.{joined, RunWhole}

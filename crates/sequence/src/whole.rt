@@ -59,7 +59,7 @@ fn run_whole(
         let mut i = children;
         while 0 < i {
             i -= 1;
-            let born = runtime::child_record(made, i as u32);
+            let born = records::child_record(made, i as u32);
             p.records[child + i * apart] = born;
         }
         // each is run whole, the foremost first

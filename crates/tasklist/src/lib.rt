@@ -1,5 +1,5 @@
-// Job lists: the reader of document 01's binary format, and the tables that a read list is kept in. The writer and what is
-// asked of the tables stand above, in `listing`; the runtime above both uses promises only.
+// Job lists: the reader of document 01's binary format, and the tables that a read list is kept in. What is asked of the tables
+// stands above, in `listing`, and the writer in `writer`; the runtime above them uses promises only.
 
 // One instruction of a task body (document 01: sheet), one case for each of the ten forms.
 pub enum Instruction {

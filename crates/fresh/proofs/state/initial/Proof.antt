@@ -4,7 +4,7 @@ use mathlib.Core.Path.{ap}
 use mathlib.Core.List.{_∷_}
 use lib.ListN.{replicate}
 use Rattle.semantics.specs.declared.Record.{Record}
-use Rattle.runtime.specs.Parts.{with-state}
+use Rattle.records.specs.Records.{with-state}
 use borrow.Author.Needs.{needs}
 use Rattle.fresh.proofs.state.initial.Statement.{statement}
 use Rattle.fresh.proofs.state.initial.Tie as tie

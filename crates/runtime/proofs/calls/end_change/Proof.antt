@@ -2,7 +2,8 @@ use Prim.Native.Nat.{ℕ}
 use mathlib.Core.Path.{ap, subst, _∙_}
 use denote.Ref.{now}
 use Rattle.semantics.specs.Plan.{«end»}
-use Rattle.runtime.specs.Parts.{PlannedAs, end-effect, with-state}
+use Rattle.runtime.specs.Parts.{PlannedAs, end-effect}
+use Rattle.records.specs.Records.{with-state}
 use Rattle.runtime.specs.Changes.{ordered, counted}
 use Rattle.runtime.proofs.ChangeLaws.{change-refused, end-changed}
 use borrow.Author.Needs.{needs}
@@ -13,7 +14,7 @@ use Rattle.runtime.proofs.calls.end_change.Lts as lts
 use Rattle.runtime.proofs.calls.end_look.Reads as end-look-reads
 use Rattle.runtime.proofs.calls.fewer.Reads as fewer-reads
 use Rattle.runtime.proofs.carry.changed.Reads as changed-reads
-use Rattle.runtime.proofs.carry.in_state.Reads as in-state-reads
+use Rattle.records.proofs.in_state.Reads as in-state-reads
 use Rattle.runtime.proofs.carry.unchanged.Reads as unchanged-reads
 use Rattle.arrays.proofs.remove.Reads as remove-reads
 

@@ -11,7 +11,7 @@ use Rattle.runtime.proofs.calls.start_change.Reads as reads
 use Rattle.runtime.proofs.calls.start_change.Lts as lts
 use Rattle.runtime.proofs.calls.start_look.Reads as start-look-reads
 use Rattle.runtime.proofs.carry.changed.Reads as changed-reads
-use Rattle.runtime.proofs.carry.in_state.Reads as in-state-reads
+use Rattle.records.proofs.in_state.Reads as in-state-reads
 use Rattle.runtime.proofs.carry.unchanged.Reads as unchanged-reads
 
 -- src/calls.rt:120:9

@@ -15,7 +15,7 @@ use Rattle.semantics.specs.Footprint.{granted}
 use Rattle.tables.specs.Grants.{grant-of, child-grant, grants-from}
 use Rattle.tables.specs.Children.{Fit, RowsOf}
 use Rattle.runtime.specs.declared.Change.{Change}
-use Rattle.runtime.specs.Steps.{newborn}
+use Rattle.records.specs.Records.{newborn}
 use Rattle.runtime.specs.Changes.{with-parts, counted}
 use Rattle.runtime.proofs.ChangeLaws.{none-fits}
 use Rattle.runtime.proofs.SpawnLaws.{bearing, spawn-denied, spawn-full, spawn-made, fit-fits}

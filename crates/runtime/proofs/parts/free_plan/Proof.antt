@@ -9,10 +9,10 @@ use Rattle.runtime.proofs.parts.free_plan.Statement.{statement}
 use Rattle.runtime.proofs.parts.free_plan.Tie as tie
 use Rattle.runtime.proofs.parts.free_plan.Reads as reads
 use Rattle.runtime.proofs.parts.free_plan.Lts as lts
-use Rattle.runtime.proofs.parts.constant.Reads as constant-reads
-use Rattle.runtime.proofs.parts.difference.Reads as difference-reads
-use Rattle.runtime.proofs.parts.less.Reads as less-reads
-use Rattle.runtime.proofs.parts.passed_over.Reads as passed-over-reads
+use Rattle.records.proofs.constant.Reads as constant-reads
+use Rattle.records.proofs.difference.Reads as difference-reads
+use Rattle.records.proofs.less.Reads as less-reads
+use Rattle.records.proofs.passed_over.Reads as passed-over-reads
 use Rattle.std.proofs.num.wrapping_add_u32.Reads as wrapping-add-u32-reads
 use Rattle.tables.proofs.register_at.Reads as register-at-reads
 

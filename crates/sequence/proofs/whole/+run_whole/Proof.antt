@@ -23,7 +23,7 @@ use Rattle.listing.proofs.row_size.Reads as row-size-reads
 use Rattle.runtime.proofs.at_end.Reads as at-end-reads
 use Rattle.runtime.proofs.end_change.Reads as end-change-reads
 use Rattle.runtime.proofs.start_change.Reads as start-change-reads
-use Rattle.runtime.proofs.child_record.Reads as child-record-reads
+use Rattle.records.proofs.child_record.Reads as child-record-reads
 use Rattle.runtime.proofs.step_change.Reads as step-change-reads
 use Rattle.std.proofs.num.wrapping_add_u32.Reads as wrapping-add-u32-reads
 use Rattle.sequence.proofs.whole.+run_whole.{statement}

@@ -2,10 +2,10 @@
 -- Assumes nothing.
 use mathlib.Core.Path.{ap}
 use borrow.Author.Needs.{needs}
-use Rattle.runtime.proofs.carry.passed.Statement.{statement}
-use Rattle.runtime.proofs.carry.passed.Tie as tie
-use Rattle.runtime.proofs.carry.passed.Reads as reads
-use Rattle.runtime.proofs.carry.passed.Lts as lts
+use Rattle.records.proofs.record.passed.Statement.{statement}
+use Rattle.records.proofs.record.passed.Tie as tie
+use Rattle.records.proofs.record.passed.Reads as reads
+use Rattle.records.proofs.record.passed.Lts as lts
 use Rattle.std.proofs.num.wrapping_add_u32.Reads as wrapping-add-u32-reads
 
 add-count : tie.Need-add-count

@@ -5,10 +5,10 @@ use native.Mathlib.Omega.{arith}
 use lib.ListN.{getD}
 use Rattle.tasklist.specs.Encode.{instruction-fields}
 use borrow.Author.Needs.{needs}
-use Rattle.runtime.proofs.parts.code_of.Statement.{statement}
-use Rattle.runtime.proofs.parts.code_of.Tie as tie
-use Rattle.runtime.proofs.parts.code_of.Reads as reads
-use Rattle.runtime.proofs.parts.code_of.Lts as lts
+use Rattle.records.proofs.codes.code_of.Statement.{statement}
+use Rattle.records.proofs.codes.code_of.Tie as tie
+use Rattle.records.proofs.codes.code_of.Reads as reads
+use Rattle.records.proofs.codes.code_of.Lts as lts
 
 enum-told : tie.Need-enum-told
 enum-told c = search needs

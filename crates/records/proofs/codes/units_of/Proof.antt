@@ -4,8 +4,8 @@ use mathlib.Core.Path.{sym, ap, _∙_}
 use native.Mathlib.Omega.{arith}
 use Rattle.semantics.specs.Plan.{units}
 use borrow.Author.Needs.{needs}
-use Rattle.runtime.proofs.parts.units_of.Statement.{statement}
-use Rattle.runtime.proofs.parts.units_of.Tie as tie
+use Rattle.records.proofs.codes.units_of.Statement.{statement}
+use Rattle.records.proofs.codes.units_of.Tie as tie
 
 enum-told : tie.Need-enum-told
 enum-told c = search needs

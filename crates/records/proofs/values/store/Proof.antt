@@ -5,10 +5,10 @@ use native.Mathlib.Omega.{arith}
 use lib.Seq.{set-out}
 use denote.Ref.{now}
 use borrow.Author.Needs.{needs}
-use Rattle.runtime.proofs.carry.store.Statement.{statement}
-use Rattle.runtime.proofs.carry.store.Tie as tie
-use Rattle.runtime.proofs.carry.store.Reads as reads
-use Rattle.runtime.proofs.carry.store.Lts as lts
+use Rattle.records.proofs.values.store.Statement.{statement}
+use Rattle.records.proofs.values.store.Tie as tie
+use Rattle.records.proofs.values.store.Reads as reads
+use Rattle.records.proofs.values.store.Lts as lts
 
 returns : tie.Need-returns
 returns c =

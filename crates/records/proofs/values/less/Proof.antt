@@ -1,11 +1,11 @@
 -- By the test.
 -- Assumes nothing.
-use Rattle.runtime.proofs.StepLaws.{is-less, not-less}
+use Rattle.records.proofs.ValueLaws.{is-less, not-less}
 use borrow.Author.Needs.{needs}
-use Rattle.runtime.proofs.parts.less.Statement.{statement}
-use Rattle.runtime.proofs.parts.less.Tie as tie
-use Rattle.runtime.proofs.parts.less.Reads as reads
-use Rattle.runtime.proofs.parts.less.Lts as lts
+use Rattle.records.proofs.values.less.Statement.{statement}
+use Rattle.records.proofs.values.less.Tie as tie
+use Rattle.records.proofs.values.less.Reads as reads
+use Rattle.records.proofs.values.less.Lts as lts
 
 returns : tie.Need-returns
 returns c =

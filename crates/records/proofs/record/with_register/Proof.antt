@@ -4,10 +4,10 @@ use mathlib.Core.Path.{refl, sym}
 use native.Mathlib.Omega.{arith}
 use lib.Seq.{set-out}
 use borrow.Author.Needs.{needs}
-use Rattle.runtime.proofs.carry.with_register.Statement.{statement}
-use Rattle.runtime.proofs.carry.with_register.Tie as tie
-use Rattle.runtime.proofs.carry.with_register.Reads as reads
-use Rattle.runtime.proofs.carry.with_register.Lts as lts
+use Rattle.records.proofs.record.with_register.Statement.{statement}
+use Rattle.records.proofs.record.with_register.Tie as tie
+use Rattle.records.proofs.record.with_register.Reads as reads
+use Rattle.records.proofs.record.with_register.Lts as lts
 
 returns : tie.Need-returns
 returns c =

@@ -1,11 +1,11 @@
 -- By the test.
 -- Assumes nothing.
-use Rattle.runtime.proofs.StepLaws.{over-zero, over-none}
+use Rattle.records.proofs.ValueLaws.{over-zero, over-none}
 use borrow.Author.Needs.{needs}
-use Rattle.runtime.proofs.parts.passed_over.Statement.{statement}
-use Rattle.runtime.proofs.parts.passed_over.Tie as tie
-use Rattle.runtime.proofs.parts.passed_over.Reads as reads
-use Rattle.runtime.proofs.parts.passed_over.Lts as lts
+use Rattle.records.proofs.values.passed_over.Statement.{statement}
+use Rattle.records.proofs.values.passed_over.Tie as tie
+use Rattle.records.proofs.values.passed_over.Reads as reads
+use Rattle.records.proofs.values.passed_over.Lts as lts
 
 returns : tie.Need-returns
 returns c =

@@ -2,8 +2,8 @@
 -- Assumes nothing.
 use mathlib.Core.Path.{ap}
 use borrow.Author.Needs.{needs}
-use Rattle.runtime.proofs.carry.child_record.Statement.{statement}
-use Rattle.runtime.proofs.carry.child_record.Tie as tie
+use Rattle.records.proofs.record.child_record.Statement.{statement}
+use Rattle.records.proofs.record.child_record.Tie as tie
 
 child-registers-requires : tie.Need-child-registers-requires
 child-registers-requires c κs = search needs

@@ -2,10 +2,10 @@
 -- Assumes nothing.
 use mathlib.Core.Path.{ap}
 use borrow.Author.Needs.{needs}
-use Rattle.runtime.proofs.carry.failed.Statement.{statement}
-use Rattle.runtime.proofs.carry.failed.Tie as tie
-use Rattle.runtime.proofs.carry.failed.Reads as reads
-use Rattle.runtime.proofs.carry.failed.Lts as lts
+use Rattle.records.proofs.record.failed.Statement.{statement}
+use Rattle.records.proofs.record.failed.Tie as tie
+use Rattle.records.proofs.record.failed.Reads as reads
+use Rattle.records.proofs.record.failed.Lts as lts
 use Rattle.std.proofs.num.wrapping_add_u32.Reads as wrapping-add-u32-reads
 
 wrapping-add-u32-requires : tie.Need-wrapping-add-u32-requires

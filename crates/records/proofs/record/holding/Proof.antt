@@ -2,11 +2,11 @@
 -- Assumes nothing.
 use mathlib.Core.Path.{ap}
 use borrow.Author.Needs.{needs}
-use Rattle.runtime.proofs.carry.holding.Statement.{statement}
-use Rattle.runtime.proofs.carry.holding.Tie as tie
-use Rattle.runtime.proofs.carry.holding.Reads as reads
-use Rattle.runtime.proofs.carry.holding.Lts as lts
-use Rattle.runtime.proofs.carry.with_register.Reads as with-register-reads
+use Rattle.records.proofs.record.holding.Statement.{statement}
+use Rattle.records.proofs.record.holding.Tie as tie
+use Rattle.records.proofs.record.holding.Reads as reads
+use Rattle.records.proofs.record.holding.Lts as lts
+use Rattle.records.proofs.record.with_register.Reads as with-register-reads
 
 with-register-requires : tie.Need-with-register-requires
 with-register-requires c κs = search needs

@@ -5,10 +5,10 @@ use native.Mathlib.Omega.{arith}
 use lib.ListN.{length, List·getD-eq-default}
 use Prim.Native.Nat.{_≤_}
 use borrow.Author.Needs.{needs}
-use Rattle.runtime.proofs.parts.value_at.Statement.{statement}
-use Rattle.runtime.proofs.parts.value_at.Tie as tie
-use Rattle.runtime.proofs.parts.value_at.Reads as reads
-use Rattle.runtime.proofs.parts.value_at.Lts as lts
+use Rattle.records.proofs.values.value_at.Statement.{statement}
+use Rattle.records.proofs.values.value_at.Tie as tie
+use Rattle.records.proofs.values.value_at.Reads as reads
+use Rattle.records.proofs.values.value_at.Lts as lts
 
 returns : tie.Need-returns
 returns c =

@@ -1,0 +1,23 @@
+-- Tests and what they give, in the code's terms. Assumes nothing.
+use Prim.Native.Nat.{ℕ, zero, suc, _≤_, _<_}
+use mathlib.Core.Path.{_≡_, refl, sym, ap}
+use mathlib.Core.Bool.{Bool, cond}
+use mathlib.Core.Logic.{_≢_}
+use lib.Dec.{ltb}
+use borrow.Author.Tests.{lt-ltb, le-ltb}
+use Rattle.semantics.specs.Plan.{passed-over}
+
+pub is-less : (a b : ℕ) → a < b → _≡_ {A = ℕ} 1 (cond (ltb a b) 1 0)
+is-less a b h = sym (ap {B = ℕ} (λ (t : Bool). cond t 1 0) (lt-ltb a b h))
+
+pub not-less : (a b : ℕ) → b ≤ a → _≡_ {A = ℕ} 0 (cond (ltb a b) 1 0)
+not-less a b h = sym (ap {B = ℕ} (λ (t : Bool). cond t 1 0) (le-ltb a b h))
+
+pub over-zero : (a b : ℕ) → a ≡ 0 → b ≡ passed-over a b
+unfolding passed-over
+over-zero a b h = sym (ap (λ x. passed-over x b) h)
+
+pub over-none : (a b : ℕ) → a ≢ 0 → 0 ≡ passed-over a b
+unfolding passed-over
+over-none zero b h = absurd (h refl)
+over-none (suc a) b h = refl

@@ -1,21 +1,20 @@
 -- The code's numbers are those of the model. Assumes nothing.
 use Prim.Native.Nat.{ℕ}
-use mathlib.Core.Path.{_≡_, refl, sym, ap, _∙_}
+use mathlib.Core.Path.{_≡_, refl, sym, ap, subst, _∙_}
 use mathlib.Core.List.{List}
-use mathlib.Core.Bool.{Bool, true, false, cond}
 use native.Mathlib.Omega.{arith}
 use lib.ListN.{length, take}
 use lib.Seq.{length-take-le}
-use lib.Dec.{eqb}
 use Rattle.semantics.specs.Run as Semantics
 use Rattle.semantics.specs.Operations.{Asked, denies, gives, with-list, open-asked}
 use Rattle.runtime.specs.declared.Run.{Run}
 use Rattle.runtime.specs.declared.Opened.{Opened}
 use Rattle.tasklist.specs.TaskList.{TaskList}
-use Rattle.tasklist.specs.Decode.{Decoded, refused, accepted, decode}
+use Rattle.tasklist.specs.Decode.{accepted, decode}
 use Rattle.tasklist.specs.Tables.{list-of}
 use Rattle.semantics.specs.Run.{Context, context, initial}
 use Rattle.semantics.specs.Call.{Call, after-all}
+use Rattle.semantics.proofs.Asked.{AskedCase, denied, given, asked-case}
 use Rattle.runtime.specs.View.{model, context-of, SoundRun, blank-run}
 use Rattle.runtime.specs.Calls.{CallsMade}
 use Rattle.runtime.specs.Asked.{OpenedAs}
@@ -39,13 +38,13 @@ order-length : (r : Run) → SoundRun r → length (model r .order) ≡ r .left
 unfolding model
 order-length r s = length-take-le (r .left) (r .order) (omega (arith, s .left, s .order))
 
-module _ (bytes : List ℕ) (o : Opened) where
-  pub calls-told : (a : Asked Semantics.Run) → OpenedAs bytes a o → o .run .calls ≡ calls-in a
+module _ (bytes weights : List ℕ) (o : Opened) where
+  pub calls-told : (a : Asked Semantics.Run) → OpenedAs bytes weights a o → o .run .calls ≡ calls-in a
   unfolding calls-in
   calls-told (denies k) h = ap (λ r. r .calls) (h .run) ∙ blank-calls
   calls-told (gives m) h = sym (model-calls (o .run)) ∙ ap (λ r. r .calls) (h .run)
 
-  pub left-told : (a : Asked Semantics.Run) → OpenedAs bytes a o → o .run .left ≡ left-in a
+  pub left-told : (a : Asked Semantics.Run) → OpenedAs bytes weights a o → o .run .left ≡ left-in a
   unfolding left-in
   left-told (denies k) h = ap (λ r. r .left) (h .run) ∙ blank-left
   left-told (gives m) h = sym (order-length (o .run) (h .sound)) ∙ ap (λ r. length (r .order)) (h .run)
@@ -53,41 +52,45 @@ module _ (bytes : List ℕ) (o : Opened) where
 accepted-same : (a b : TaskList) → accepted a ≡ accepted b → a ≡ b
 accepted-same a b q = cc
 
-module _ (bytes memory : List ℕ) (calls : List Call) (o : Opened) where
+module _ (bytes memory weights : List ℕ) (calls : List Call) (o : Opened) where
+  abbrev after-calls : Context → Semantics.Run
+  after-calls c = after-all c (initial c memory) calls
+
   -- replay's calls are those of the run that was asked for
-  pub replay-told : ReplayedAs bytes memory calls (open-asked bytes memory) o → o .run .calls ≡ calls-in (replay-asked bytes memory calls)
-  unfolding open-asked with-list calls-in replay-asked
-  replay-told h = by-list (decode bytes) refl h
+  pub replay-told :
+      ReplayedAs bytes memory weights calls (open-asked bytes memory weights) o
+      → o .run .calls ≡ calls-in (replay-asked bytes memory weights calls)
+  unfolding open-asked replay-asked
+  replay-told h = by-case (asked-case bytes memory weights)
     where
-      after-calls : Context → Semantics.Run
-      after-calls c = after-all c (initial c memory) calls
+      replayed : Asked Semantics.Run → Type 0
+      replayed a = ReplayedAs bytes memory weights calls a o
 
-      by-fit : (l : TaskList) → decode bytes ≡ accepted l → (b : Bool)
-          → ReplayedAs bytes memory calls (cond b (gives (initial (context l) memory)) (denies 8)) o
-          → o .run .calls ≡ calls-in (cond b (gives (after-calls (context l))) (denies 8))
-      by-fit l q false h = ap (λ r. r .calls) (h .run) ∙ blank-calls
-      by-fit l q true h =
-          let same : list-of (o .run .tables) ≡ l = accepted-same (list-of (o .run .tables)) l (sym (h .list) ∙ q) in
-          sym (model-calls (o .run)) ∙ ap (λ r. r .calls) (h .run) ∙ ap (λ x. after-calls (context x) .calls) same
+      by-case : AskedCase bytes memory weights → o .run .calls ≡ calls-in (with-list (decode bytes) memory weights after-calls)
+      by-case (denied k some e) =
+          let u = subst replayed (e Semantics.Run (λ c. initial c memory)) h in
+          ap (λ r. r .calls) (u .run) ∙ blank-calls ∙ (unfold calls-in in refl) ∙ ap calls-in (sym (e Semantics.Run after-calls))
+      by-case (given l q fits ok e) =
+          let w = subst replayed (e Semantics.Run (λ c. initial c memory)) h in
+          let same : list-of (o .run .tables) ≡ l = accepted-same (list-of (o .run .tables)) l (sym (w .list) ∙ q) in
+          let under : context-of (o .run) ≡ context l weights = λ i. context (same i) (w .table i) in
+          sym (model-calls (o .run)) ∙ ap (λ r. r .calls) (w .run) ∙ ap (λ c. after-calls c .calls) under
+          ∙ (unfold calls-in in refl) ∙ ap calls-in (sym (e Semantics.Run after-calls))
 
-      by-list : (d : Decoded) → decode bytes ≡ d → ReplayedAs bytes memory calls (with-list d memory (λ c. initial c memory)) o
-          → o .run .calls ≡ calls-in (with-list d memory after-calls)
-      by-list (refused k) q h = ap (λ r. r .calls) (h .run) ∙ blank-calls
-      by-list (accepted l) q h = by-fit l q (eqb (length memory) (l .locations)) h
-
-  module _ (h : OpenedAs bytes (open-asked bytes memory) o) where
+  module _ (h : OpenedAs bytes weights (open-asked bytes memory weights) o) where
     -- no run was opened
-    pub none-told : o .run .left ≡ 0 → 0 ≡ calls-in (replay-asked bytes memory calls)
+    pub none-told : o .run .left ≡ 0 → 0 ≡ calls-in (replay-asked bytes memory weights calls)
     unfolding calls-in replay-asked
     none-told z =
-        let u = still-unopened bytes memory (λ c. after-all c (initial c memory) calls) o h z in
+        let u = still-unopened bytes memory weights o h after-calls z in
         ap calls-in (sym (u .1))
 
     -- these calls were made on the run that was opened
-    pub made-told : (o .run .left ≡ 0 → ⊥) → (r : Run) → CallsMade calls (o .run) r → r .calls ≡ calls-in (replay-asked bytes memory calls)
+    pub made-told :
+        (o .run .left ≡ 0 → ⊥) → (r : Run) → CallsMade calls (o .run) r → r .calls ≡ calls-in (replay-asked bytes memory weights calls)
     unfolding calls-in replay-asked
     made-told z r made =
-        let w = now-fresh bytes memory (λ c. after-all c (initial c memory) calls) o h z in
+        let w = now-fresh bytes memory weights o h after-calls z in
         sym (model-calls r)
         ∙ ap (λ m. m .calls) (made .run (w .0 .sound) ∙ ap (λ m. after-all (context-of (o .run)) m calls) (w .0 .run))
         ∙ ap calls-in (sym (w .1))

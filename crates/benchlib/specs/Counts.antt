@@ -20,9 +20,9 @@ left-in (denies k) = 0
 left-in (gives r) = length (r .order)
 
 -- "The first gets the fresh run, each later one the run as the call before it left it": these calls on what open gives
-unfoldable pub replay-asked : List ℕ → List ℕ → List Call → Asked Semantics.Run
-replay-asked bytes memory calls = with-list (decode bytes) memory (λ c. after-all c (initial c memory) calls)
+unfoldable pub replay-asked : List ℕ → List ℕ → List ℕ → List Call → Asked Semantics.Run
+replay-asked bytes memory weights calls = with-list (decode bytes) memory weights (λ c. after-all c (initial c memory) calls)
 
 -- the calls of the input's first 512 bytes
-unfoldable pub lent-asked : List ℕ → List ℕ → List ℕ → Asked Semantics.Run
-lent-asked bytes memory input = replay-asked bytes memory (Lines.calls-in (take 512 input))
+unfoldable pub lent-asked : List ℕ → List ℕ → List ℕ → List ℕ → Asked Semantics.Run
+lent-asked bytes memory weights input = replay-asked bytes memory weights (Lines.calls-in (take 512 input))

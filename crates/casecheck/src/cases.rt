@@ -64,7 +64,8 @@ fn put_state(run: Run, out: &mut [u8; 4096], at: usize) -> usize {
 
 // The sequential run (document 01: the hand run).
 fn by_hand(list: &[u8], memory: &[u32]) -> Opened {
-    sequence::sequential(list, memory)
+    let weights = fresh::todays_weights();
+    sequence::sequential(list, memory, &weights)
 }
 
 // The lines of the sequential run.
@@ -84,7 +85,8 @@ fn put_hand(hand: Opened, out: &mut [u8; 4096], at: usize) -> usize {
 
 // The lines of a case behind its number.
 fn put_opened(list: &[u8], memory: &[u32], calls: &[u8], out: &mut [u8; 4096], at: usize) -> usize {
-    let opened = fresh::open(list, memory);
+    let weights = fresh::todays_weights();
+    let opened = fresh::open(list, memory, &weights);
     let answer = opened.answer;
     let k = open_number(answer);
     let mut o = put_text(out, at, b"open");

@@ -46,11 +46,13 @@ pub fn answer_number(answer: Answer) -> u64
     }
 }
 
-// 0, 1 to 7, or 8.
+// 0, 1 to 7, or 8, 21, 22.
 pub fn open_number(answer: OpenAnswer) -> u64 {
     match answer {
         OpenAnswer::Accepted => 0,
         OpenAnswer::Refused { refusal } => tasklist::refusal_number(refusal) as u64,
         OpenAnswer::Length => 8,
+        OpenAnswer::Table => 21,
+        OpenAnswer::Weight => 22,
     }
 }

@@ -44,6 +44,7 @@ pub blank-made :
       left = 0;
       calls = 0;
       weight = 0;
+      weights = replicate 12 0;
     }) blank-run
 unfolding blank-run
 blank-made t z e f =
@@ -56,6 +57,7 @@ blank-made t z e f =
       left = 0;
       calls = 0;
       weight = 0;
+      weights = replicate 12 0;
     }) e
     ∙ ap (λ (x : Record). record {
       tables = blank-tables;
@@ -66,4 +68,5 @@ blank-made t z e f =
       left = 0;
       calls = 0;
       weight = 0;
+      weights = replicate 12 0;
     }) f

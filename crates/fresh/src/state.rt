@@ -39,6 +39,7 @@ pub fn blank_run() -> Run
         left: 0,
         calls: 0,
         weight: 0,
+        weights: [0u16; 12],
     }
 }
 
@@ -70,10 +71,10 @@ pub fn root_modes(locations: usize) -> [u8; 8192]
     modes
 }
 
-// The fresh run of a list and a memory that fits it.
-pub fn initial(tables: Tables, numbers: &[u32]) -> Run
+// The fresh run of a list and a memory that fits it, under these weights.
+pub fn initial(tables: Tables, numbers: &[u32], weights: [u16; 12]) -> Run
     requires { ⌜ (length (now numbers) ≡ tables .locations) × (tables .locations ≤ 64) ⌝ }
-    ensures { λ r. ⌜ InitialOf tables (now (numbers .entry)) r ⌝ }
+    ensures { λ r. ⌜ InitialOf tables (now (numbers .entry)) weights r ⌝ }
 {
     let memory = memory_of(numbers);
     let modes = root_modes(numbers.len());
@@ -91,5 +92,6 @@ pub fn initial(tables: Tables, numbers: &[u32]) -> Run
         left: 1,
         calls: 0,
         weight: 0,
+        weights,
     }
 }

@@ -7,8 +7,7 @@ use native.Mathlib.Omega.{arith}
 use native.Mathlib.Nat.{mul-suc}
 use lib.ListN.{take, drop}
 use lib.Seq.{drop-drop}
-use Rattle.tasklist.specs.Tables.{list-of}
-use Rattle.semantics.specs.Run.{Context, context}
+use Rattle.semantics.specs.Run.{Context}
 use Rattle.semantics.specs.Run as Semantics
 use Rattle.semantics.specs.Call.{after-all}
 use Rattle.semantics.specs.declared.Answer.{Answer}
@@ -22,6 +21,7 @@ use Rattle.lent.specs.declared.Lent.{Lent}
 use Rattle.lent.specs.Handed.{CalledIn}
 use Rattle.lent.specs.Lines.{calls-in, line, lines}
 use Rattle.lent.specs.Pieces.{rest, said, Facing, Ready, NotedAs, PieceOf, LentAs, LentOf}
+use Rattle.runtime.proofs.ViewLaws.{same-context}
 use Rattle.runtime.proofs.CallLaws.{one-call}
 use Rattle.runtime.proofs.MadeLaws.{no-calls, calls-append, kind-start, kind-step, kind-end, other-kind, kind-none}
 use Rattle.lent.proofs.PieceLaws.{false-true}
@@ -32,13 +32,14 @@ twice t = omega (arith, mul-suc 2 t)
 -- the run `h` and the piece `p` after some turns from the run `from` and the piece `p₀`
 pub record Inv (p₀ : Piece) (from h : Run) (p : Piece) : Type 0 where
   pub list : h .tables ≡ from .tables
+  pub weights : h .weights ≡ from .weights
   pub sound : SoundRun from → SoundRun h
   pub ready : Ready p₀ → Ready p
   pub made : Ready p₀ → (r : Run) → CallsMade (calls-in (rest p)) h r → CallsMade (calls-in (rest p₀)) from r
   pub lines : Ready p₀ → SoundRun from → said p ++ lines (context-of from) (model h) (rest p) ≡ said p₀ ++ lines (context-of from) (model from) (rest p₀)
 
 pub begins : (p : Piece) (from : Run) → Inv p from from p
-begins p from = record { list = refl; sound = λ s. s; ready = λ y. y; made = λ y r m. m; lines = λ y s. refl }
+begins p from = record { list = refl; weights = refl; sound = λ s. s; ready = λ y. y; made = λ y r m. m; lines = λ y s. refl }
 
 -- the first two bytes at hand, one of them, or none
 over : (l : List ℕ) (more : Bool) (kind task : ℕ) → Facing l more kind task → more ≡ false → l ≡ []
@@ -103,6 +104,7 @@ module _ (p₀ : Piece) (from h : Run) (p : Piece) (inv : Inv p₀ from h p) whe
     turned x h′ p′ m e n =
         record {
           list = m .list ∙ inv .list;
+          weights = m .weights ∙ inv .weights;
           sound = λ s. m .sound (inv .sound s);
           ready = λ y. n .ready;
           made = λ y r k. inv .made y r (turn-made (rest p) (p .more) (p .kind) (p .task) (inv .ready y .facing) yes h h′ r m (subst (λ l. CallsMade (calls-in l) h′ r) (left y) k));
@@ -115,7 +117,7 @@ module _ (p₀ : Piece) (from h : Run) (p : Piece) (inv : Inv p₀ from h p) whe
             ∙ sym (drop-drop 2 (2 * p .turn) (take (p .length) (p .input)) ∙ ap (λ j. drop j (take (p .length) (p .input))) (twice (p .turn)))
 
         same : context-of h ≡ context-of from
-        same = ap (λ t. context (list-of t)) (inv .list)
+        same = same-context h from (inv .list) (inv .weights)
 
         all-said : Ready p₀ → SoundRun from → said p′ ++ lines (context-of from) (model h′) (rest p′) ≡ said p ++ lines (context-of from) (model h) (rest p)
         all-said y s =

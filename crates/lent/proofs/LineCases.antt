@@ -17,7 +17,7 @@ use Rattle.lent.specs.Lines.{line, lines}
 
 -- the lines of P under this input
 abbrev printed : List ℕ → List ℕ
-printed input = lines (context P) (initial (context P) (5 ∷ 7 ∷ [])) input
+printed input = let c = context P fixed-weights in lines c (initial c (5 ∷ 7 ∷ [])) input
 
 pub example : printed (0 ∷ 0 ∷ 1 ∷ 0 ∷ 1 ∷ 0 ∷ 0 ∷ 2 ∷ []) ≡ 0 ∷ 0 ∷ 0 ∷ 19 ∷ []
 unfolding body-of footprint-of instruction-of total adds count-body count-from counts task-count no-modes never fixed-weights weight-of root-modes root initial every any only ahead queue behind-writer compatible allowed access-fault unless-fault plan-load plan-store plan-wait passed-over targets all-targets merged unless-denied grant child-modes with-first children numbered-from child-number plan-make plan-instruction units step-weight at-end needs-from plan-start plan-step plan-end plan hold admit settle among decide edited written splice stays places changes apply taken call after after-all outcome-number calls-of-kind line lines

@@ -1,2 +1,3 @@
--- Laws of a library's numbers.
+-- Laws of a library's numbers, and of a table's.
 pub mod LibraryLaws
+pub mod TableLaws

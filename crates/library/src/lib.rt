@@ -1,13 +1,21 @@
-// The numbers of a library file: read from its bytes, four for each, least first, and written back.
+// The numbers of a library file: read from its bytes, four for each, least first, and written back; and those of a table of
+// weights, two bytes for each.
 ghost use Prim.Native.Nat.{_+_, _*_, _≤_, _<_, min};
 ghost use mathlib.Core.Path.{_≡_};
 ghost use lib.ListN.{length, take, getD};
 ghost use lib.Seq.{sets};
 ghost use Rattle.library.specs.Library.{number-of, number-bytes, bytes-of, Read, Put};
+ghost use Rattle.library.specs.Table.{pair-of, ReadTable};
 
 // A library's numbers (document 01: entries): the first `count` values.
 pub struct Numbers {
     pub values: [u32; 64],
+    pub count: usize,
+}
+
+// A table of weights (request 105): the first `count` values, all or none.
+pub struct Table {
+    pub values: [u16; 12],
     pub count: usize,
 }
 
@@ -92,4 +100,34 @@ pub fn write_numbers(numbers: [u32; 64], count: usize, out: &mut [u8]) -> bool
     }
     put_numbers(numbers, n, out);
     true
+}
+
+fn short(x: u8) -> u16
+    ensures { λ r. ⌜ (r ≡ x) × (r < 256) ⌝ }
+{
+    x as u16
+}
+
+// The number whose two bytes begin at `at`.
+fn pair_at(bytes: &[u8], at: usize) -> u16
+    requires { ⌜ at + 2 ≤ length (now bytes) ⌝ }
+    ensures { λ r. ⌜ r ≡ pair-of (getD (now (bytes .entry)) at 0) (getD (now (bytes .entry)) (at + 1) 0) ⌝ }
+{
+    short(bytes[at]) + 256 * short(bytes[at + 1])
+}
+
+// The numbers of a table. None where there are other than 24 bytes: they are no table.
+pub fn read_table(bytes: &[u8]) -> Table
+    ensures { λ r. ⌜ ReadTable (now (bytes .entry)) r ⌝ }
+{
+    let mut values = [0u16; 12];
+    if bytes.len() != 24 {
+        return Table { values, count: 0 };
+    }
+    let mut i = 0;
+    while i < 12 {
+        values[i] = pair_at(bytes, 2 * i);
+        i += 1;
+    }
+    Table { values, count: 12 }
 }

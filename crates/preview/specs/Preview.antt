@@ -11,6 +11,7 @@ use Rattle.tasklist.specs.Answers as Listed
 use Rattle.semantics.specs.Run.{Run}
 use Rattle.semantics.specs.Operations.{Asked, denies, gives, sequential-asked}
 use Rattle.library.specs.Library.{memory-of, bytes-of}
+use Rattle.library.specs.Table.{table-of}
 
 -- "a refusal is 128 plus its number"
 abbrev pub refusal-over-c : ℕ → ℕ
@@ -31,9 +32,10 @@ final-entries room (gives r) =
     let bytes = bytes-of (r .memory) in
     cond (leb (length bytes) room) (gives bytes) (denies 17)
 
--- "its hand run takes the library as in library.bin"; the refusals 1 to 7 of check, then 8, then 17
-unfoldable pub hand-run-over-c : List ℕ → List ℕ → ℕ → Asked (List ℕ)
-hand-run-over-c list library room = final-entries room (sequential-asked list (memory-of library))
+-- "its hand run takes the library as in library.bin"; request 105: "over the C boundary the table is bytes"; the refusals 1 to 7 of
+-- check, then 8, 21, 22, then 17
+unfoldable pub hand-run-over-c : List ℕ → List ℕ → List ℕ → ℕ → Asked (List ℕ)
+hand-run-over-c list library table room = final-entries room (sequential-asked list (memory-of library) (table-of table))
 
 -- "a successful hand run gives 0, and a refusal is 128 plus its number"
 unfoldable pub hand-run-number : Asked (List ℕ) → ℕ

@@ -9,6 +9,7 @@ ghost use Rattle.runtime.specs.View.{model};
 ghost use Rattle.runtime.specs.Asked.{OpenedAs};
 ghost use Rattle.preview.specs.Preview.{refusal-over-c, check-over-c, final-entries, hand-run-over-c, Answers};
 use library::Numbers;
+use library::Table;
 use runtime::OpenAnswer;
 use runtime::Opened;
 use runtime::Run;
@@ -38,14 +39,16 @@ pub extern "C" fn preview_check(list: &[u8]) -> u32
     }
 }
 
-// Runs a list on the first `count` of the library's numbers.
-fn ran(list: &[u8], numbers: Numbers) -> Opened
-    requires { ⌜ (length (numbers .values) ≡ 64) × (numbers .count ≤ 64) ⌝ }
-    ensures { λ r. ⌜ OpenedAs (now (list .entry)) (sequential-asked (now (list .entry)) (take (numbers .count) (numbers .values))) r ⌝ }
+// Runs a list on the first `count` of the library's numbers, under those of the table.
+fn ran(list: &[u8], numbers: Numbers, table: Table) -> Opened
+    requires { ⌜ (length (numbers .values) ≡ 64) × (numbers .count ≤ 64) × (length (table .values) ≡ 12) × (table .count ≤ 12) ⌝ }
+    ensures { λ r. ⌜ OpenedAs (now (list .entry)) (take (table .count) (table .values)) (sequential-asked (now (list .entry)) (take (numbers .count) (numbers .values)) (take (table .count) (table .values))) r ⌝ }
 {
     let values = numbers.values;
     let count = numbers.count;
-    sequence::sequential(list, &values[..count])
+    let weights = table.values;
+    let places = table.count;
+    sequence::sequential(list, &values[..count], &weights[..places])
 }
 
 // Writes the run's memory, four bytes for each location, or gives 128 + 17 where the slice is too short.
@@ -60,18 +63,26 @@ fn delivered(run: Run, result: &mut [u8]) -> u32
     128 + 17
 }
 
-// Runs a list by hand on a library, and writes the final entries to the front of `result`: 0, or 128 plus the refusal's
-// number, and then nothing is written.
+// Runs a list by hand on a library, under a table of weights, and writes the final entries to the front of `result`: 0, or 128
+// plus the refusal's number, and then nothing is written.
 #[no_mangle]
-pub extern "C" fn preview_hand_run(list: &[u8], library: &[u8], result: &mut [u8]) -> u32
-    ensures { λ r. ⌜ Answers (hand-run-over-c (now (list .entry)) (now (library .entry)) (length (now (result .entry)))) (now (result .entry)) (now (result .exit)) r ⌝ }
+pub extern "C" fn preview_hand_run(
+    list: &[u8],
+    library: &[u8],
+    table: &[u8],
+    result: &mut [u8],
+) -> u32
+    ensures { λ r. ⌜ Answers (hand-run-over-c (now (list .entry)) (now (library .entry)) (now (table .entry)) (length (now (result .entry)))) (now (result .entry)) (now (result .exit)) r ⌝ }
 {
     let numbers = library::read_numbers(library);
-    let opened = ran(list, numbers);
+    let weights = library::read_table(table);
+    let opened = ran(list, numbers, weights);
     let answer = opened.answer;
     match answer {
         OpenAnswer::Refused { refusal } => refused(refusal),
         OpenAnswer::Length => 128 + 8,
+        OpenAnswer::Table => 128 + 21,
+        OpenAnswer::Weight => 128 + 22,
         OpenAnswer::Accepted => {
             let run = opened.run;
             delivered(run, result)

@@ -18,17 +18,18 @@ use Rattle.tasklist.proofs.PlaceLaws.{getD-default}
 use Rattle.semantics.specs.declared.Record.{Record}
 use Rattle.semantics.specs.declared.CallRefusal.{CallRefusal}
 use Rattle.semantics.specs.declared.Answer.the-variants as Answers
-use Rattle.semantics.specs.Run.{Task, context, fixed-weights, weight-of, task-of}
+use Rattle.semantics.specs.Run.{Task, weight-of, task-of, start-weight, end-weight}
 use Rattle.semantics.specs.Access.{Access, every}
 use Rattle.semantics.specs.Effect.{Effect, keep, in-state}
 use Rattle.semantics.specs.Plan.{Action, start, «end», at-end, needs-from, plan-start, plan-end, plan}
 use Rattle.semantics.specs.Call.{after-all, refuse, accept, admit, settle, among, decide, edited, charged, written, splice, stays, places, changes, apply}
 use Rattle.semantics.specs.Answers.{refusal-number, answer-number, outcome-number, task-from}
+use Rattle.semantics.specs.Operations.{WeightsAccepted}
 use Rattle.semantics.specs.Sound.{In, Sound}
 use Rattle.semantics.proofs.Order.{splice-same, splice-other}
 use Rattle.semantics.proofs.Decide.{decide-accept}
 use Rattle.semantics.proofs.SoundKept.{sound-kept}
-use Rattle.semantics.proofs.Bounds.{order-below, calls-most, fixed-light, weight-most, weights-most}
+use Rattle.semantics.proofs.Bounds.{order-below, calls-most, weights-light, weight-most, weights-most}
 use Rattle.semantics.proofs.Unchanged.{after-refuse, after-accept}
 use Rattle.semantics.proofs.Search.{Asks, start-asks}
 use Rattle.arrays.specs.Rows.{row}
@@ -46,7 +47,7 @@ use Rattle.runtime.specs.Calls.{call-of, decided, CalledAs, CallsMade}
 use Rattle.runtime.specs.Parts.{Placed, no-record, record-of, start-effect, end-effect, heavier}
 use Rattle.records.specs.Records.{with-state}
 use Rattle.runtime.specs.Steps.{WholeRun}
-use Rattle.runtime.proofs.ViewLaws.{same-run, tasks-set, task-is}
+use Rattle.runtime.proofs.ViewLaws.{same-context, same-run, tasks-set, task-is}
 
 -- "Each accepted call adds 1 to calls and its weight to record and run": task n with another record, and another order
 unfoldable pub applied : ℕ → Record → List ℕ → ℕ → ℕ → Run → Run
@@ -60,15 +61,16 @@ applied n t order left w run =
       left = left;
       calls = (run .calls + 1) % 2 ^ 32;
       weight = (run .weight + w) % 2 ^ 32;
+      weights = run .weights;
     }
 
 -- "its state becomes 2"
 abbrev pub started : ℕ → Run → Run
-started n run = applied n (with-state 2 (record-of run n)) (run .order) (run .left) 5 run
+started n run = applied n (with-state 2 (record-of run n)) (run .order) (run .left) (start-weight (context-of run)) run
 
 -- "the job leaves the order and its state becomes 3"
 pub record EndedAs (n place : ℕ) (from r : Run) : Type 0 where
-  pub run : r ≡ applied n (with-state 3 (record-of from n)) (r .order) (from .left - 1) 2 from
+  pub run : r ≡ applied n (with-state 3 (record-of from n)) (r .order) (from .left - 1) (end-weight (context-of from)) from
   pub whole : length (from .order) ≡ 128 → length (r .order) ≡ 128
   pub order :
       length (from .order) ≡ 128 → place < from .left → from .left ≤ 128
@@ -219,7 +221,7 @@ module _ (run : Run) (n : ℕ) (below : n < 128) (s : SoundRun run) where
 -- A call's run alone.
 pub one-call : (a : Action) (run : Run) (n : ℕ) (done : Called) → CalledAs a run n done → CallsMade (call-of a n ∷ []) run (done .run)
 unfolding after-all
-one-call a run n done h = record { list = h .list; run = h .run; sound = h .sound }
+one-call a run n done h = record { list = h .list; weights = h .weights; run = h .run; sound = h .sound }
 
 -- A call that is refused: the very run is handed back.
 pub called-refused :
@@ -231,6 +233,7 @@ called-refused a run n k h =
       run = λ s. sym (after-refuse (context-of run) (model run) (call-of a n) (refusal-number k) (h s));
       sound = λ s. s;
       list = refl;
+      weights = refl;
       refused = λ j q. refl;
     }
 
@@ -241,15 +244,16 @@ Whole run = WholeRun run
 -- A call that is accepted: the run after its effect is handed back.
 pub called-taken :
     (a : Action) (run : Run) (n : ℕ) (e : Effect) (next : Run) → next .tables ≡ run .tables
-    → (SoundRun run → decided run a n ≡ accept e)
+    → next .weights ≡ run .weights → (SoundRun run → decided run a n ≡ accept e)
     → (SoundRun run → (model next ≡ apply n e (model run)) × Whole next)
     → CalledAs a run n (record { answer = Answers.Accepted; run = next })
-called-taken a run n e next t h m =
+called-taken a run n e next t w h m =
     record {
       answer = λ s. unfold answer-number outcome-number in sym (ap outcome-number (h s));
       run = λ s. m s .0 ∙ sym (after-accept (context-of run) (model run) (call-of a n) e (h s));
       sound = keeps;
       list = t;
+      weights = w;
       refused = λ k q. let z : _≡_ {A = ℕ} 0 1 = cc in let bad : ⊥ = omega arith in absurd bad;
     }
   where
@@ -264,10 +268,11 @@ called-taken a run n e next t h m =
           modes = m s .1 .modes;
           order = m s .1 .order;
           left = m s .1 .left;
+          weights = subst WeightsAccepted (sym w) (s .weights);
           sound =
-              subst (λ x. Sound (context (list-of x)) 128 (model next)) (sym t)
-              (subst (Sound (context-of run) 128) (sym (m s .0))
-              (sound-kept (context-of run) (list-accepted run s) 128 (fixed-light (list-of (run .tables))) (model run) (s .sound)
+              subst (λ c. Sound c 16000 (model next)) (sym (same-context next run t w))
+              (subst (Sound (context-of run) 16000) (sym (m s .0))
+              (sound-kept (context-of run) (list-accepted run s) 16000 (weights-light (context-of run) (s .weights)) (model run) (s .sound)
               (call-of a n) e (decide-accept (context-of run) (model run) (call-of a n) e (h s))));
         }
 
@@ -275,18 +280,18 @@ called-taken a run n e next t h m =
 abbrev pub own-effect : Task → Bool → ℕ → Effect
 own-effect t leaves w = record { task = t; edit = keep; made = []; leaves = leaves; weight = w }
 
-small-sum : (a b : ℕ) → a ≤ 557056 → b < 2048 → (a + b) % 2 ^ 32 ≡ a + b
+small-sum : (a b : ℕ) → a ≤ 69632000 → b < 2 ^ 24 → (a + b) % 2 ^ 32 ≡ a + b
 small-sum a b h k = omega arith
 
 -- What `applied` comes to.
 module _
     (run : Run) (s : SoundRun run) (n : ℕ) (below : n < 128) (own : Record) (order : List ℕ) (left w : ℕ) (leaves : Bool)
-    (same-weight : own .weight ≡ record-of run n .weight) (light : w < 2048)
+    (same-weight : own .weight ≡ record-of run n .weight) (light : w < 2 ^ 24)
     (spliced : take left order ≡ splice n (places n (own-effect (task-from own (row n (run .modes))) leaves w)) (take (run .left) (run .order)))
   where
-    light-own : own .weight ≤ 557056
+    light-own : own .weight ≤ 69632000
     light-own =
-        let h = weights-most (list-of (run .tables)) (model run) (s .sound) n in
+        let h = weights-most (context-of run) (model run) (s .sound) n in
         let q = ap (λ t. t .weight) (own-task run s n below) in
         omega (arith, h, q, same-weight)
 
@@ -305,11 +310,11 @@ module _
 
     few-calls : run .calls ≤ 4352
     unfolding model
-    few-calls = calls-most (context-of run) 128 (model run) (s .sound)
+    few-calls = calls-most (context-of run) 16000 (model run) (s .sound)
 
-    small-weight : run .weight ≤ 557056
+    small-weight : run .weight ≤ 69632000
     unfolding model
-    small-weight = weight-most (list-of (run .tables)) (model run) (s .sound)
+    small-weight = weight-most (context-of run) (model run) (s .sound)
 
     pub applied-model : model (applied n own order left w run) ≡ apply n (own-effect (task-from own (row n (run .modes))) leaves w) (model run)
     unfolding model applied apply changes written edited
@@ -345,17 +350,19 @@ splice-self n (k ∷ o) = sort (splice-self n o) (ℕ-discrete k n)
 pub start-taken :
     (run : Run) (n : ℕ) → n < 128 → (SoundRun run → decided run start n ≡ accept (start-effect run n))
     → CalledAs start run n (record { answer = Answers.Accepted; run = started n run })
-start-taken run n below h = called-taken start run n (start-effect run n) (started n run) (unfold applied in refl) h after-start
+start-taken run n below h = called-taken start run n (start-effect run n) (started n run) (unfold applied in refl) (unfold applied in refl) h after-start
   where
     after-start : SoundRun run → (model (started n run) ≡ apply n (start-effect run n) (model run)) × Whole (started n run)
     after-start s =
         let own = with-state 2 (record-of run n) in
-        let same : take (run .left) (run .order) ≡ splice n (places n (own-effect (task-from own (row n (run .modes))) false 5)) (take (run .left) (run .order)) =
+        let w = start-weight (context-of run) in
+        let light : w < 2 ^ 24 = omega (arith, weights-light (context-of run) (s .weights) 0) in
+        let same : take (run .left) (run .order) ≡ splice n (places n (own-effect (task-from own (row n (run .modes))) false w)) (take (run .left) (run .order)) =
         unfold places stays in sym (splice-self n (take (run .left) (run .order))) in
-        let effect : own-effect (task-from own (row n (run .modes))) false 5 ≡ start-effect run n =
-        unfold weight-of fixed-weights in ap (λ t. own-effect (in-state 2 t) false 5) (sym (own-task run s n below)) in (
-          applied-model run s n below own (run .order) (run .left) 5 false refl (omega arith) same ∙ ap (λ e. apply n e (model run)) effect,
-          applied-whole run s n below own (run .order) (run .left) 5 false refl (omega arith) same (s .order) (s .left),
+        let effect : own-effect (task-from own (row n (run .modes))) false w ≡ start-effect run n =
+        ap (λ t. own-effect (in-state 2 t) false w) (sym (own-task run s n below)) in (
+          applied-model run s n below own (run .order) (run .left) w false refl light same ∙ ap (λ e. apply n e (model run)) effect,
+          applied-whole run s n below own (run .order) (run .left) w false refl light same (s .order) (s .left),
         )
 
 left-out :
@@ -372,17 +379,20 @@ pub end-taken :
     → (SoundRun run → Placed run n place × (decided run «end» n ≡ accept (end-effect run n))) → EndedAs n place run next
     → CalledAs «end» run n (record { answer = Answers.Accepted; run = next })
 end-taken run n place next below h e =
-    called-taken «end» run n (end-effect run n) next (ap (λ r. r .tables) (e .run) ∙ (unfold applied in refl)) (λ s. h s .1) (λ s. after-end s (h s .0))
+    called-taken «end» run n (end-effect run n) next (ap (λ r. r .tables) (e .run) ∙ (unfold applied in refl))
+    (ap (λ r. r .weights) (e .run) ∙ (unfold applied in refl)) (λ s. h s .1) (λ s. after-end s (h s .0))
   where
     after-end : SoundRun run → Placed run n place → (model next ≡ apply n (end-effect run n) (model run)) × Whole next
     after-end s p =
         let own = with-state 3 (record-of run n) in
-        let same : take (run .left - 1) (next .order) ≡ splice n (places n (own-effect (task-from own (row n (run .modes))) true 2)) (take (run .left) (run .order)) =
+        let w = end-weight (context-of run) in
+        let light : w < 2 ^ 24 = omega (arith, weights-light (context-of run) (s .weights) 1) in
+        let same : take (run .left - 1) (next .order) ≡ splice n (places n (own-effect (task-from own (row n (run .modes))) true w)) (take (run .left) (run .order)) =
         unfold places stays in e .order (s .order) (p .within) (s .left) ∙ left-out run n place s p in
-        let effect : own-effect (task-from own (row n (run .modes))) true 2 ≡ end-effect run n =
-        unfold weight-of fixed-weights in ap (λ t. own-effect (in-state 3 t) true 2) (sym (own-task run s n below)) in (
-          ap model (e .run) ∙ applied-model run s n below own (next .order) (run .left - 1) 2 true refl (omega arith) same
+        let effect : own-effect (task-from own (row n (run .modes))) true w ≡ end-effect run n =
+        ap (λ t. own-effect (in-state 3 t) true w) (sym (own-task run s n below)) in (
+          ap model (e .run) ∙ applied-model run s n below own (next .order) (run .left - 1) w true refl light same
               ∙ ap (λ x. apply n x (model run)) effect,
           subst Whole (sym (e .run))
-              (applied-whole run s n below own (next .order) (run .left - 1) 2 true refl (omega arith) same (e .whole (s .order)) (omega (arith, s .left))),
+              (applied-whole run s n below own (next .order) (run .left - 1) w true refl light same (e .whole (s .order)) (omega (arith, s .left))),
         )

@@ -48,6 +48,7 @@ with-memory memory run =
       left = run .left;
       calls = run .calls;
       weight = run .weight;
+      weights = run .weights;
     }
 
 -- the run with another number at a location
@@ -174,7 +175,7 @@ module _ (run : Run) (n : ℕ) (below : n < 128) (s : SoundRun run) where
       ∙ ap (λ rs. moved 1 (set rs a v) (task-of (model run) n)) own-registers
 
   -- one call on
-  module _ (own : Record) (w : ℕ) (same-weight : own .weight ≡ record-of run n .weight) (light : w < 2048) where
+  module _ (own : Record) (w : ℕ) (same-weight : own .weight ≡ record-of run n .weight) (light : w < 2 ^ 24) where
     same-order :
         take (run .left) (run .order)
         ≡ splice n (places n (own-effect (task-from own (row n (run .modes))) false w)) (take (run .left) (run .order))
@@ -197,6 +198,7 @@ module _ (run : Run) (n place w : ℕ) (below : n < 128) where
   own-carried p own same fits =
       record {
         list = unfold applied in refl;
+        weights = unfold applied in refl;
         effect = λ s q light e h d. (
           onward-model run n below s own w same light
               ∙ ap (λ x. apply n x (model run)) (same-effect (own-effect (task-from own (row n (run .modes))) false w) e (sym (fits s) ∙ h)),
@@ -220,7 +222,7 @@ module _ (run : Run) (n place w : ℕ) (below : n < 128) where
       own-carried (Planned.Pass k) (passed k (record-of run n)) refl
       (λ s. unfold planned in ap (λ t. accept (own-effect t false w)) (sym (passed-task run n below s k h)))
 
-  module _ (s : SoundRun run) (light : w < 2048) where
+  module _ (s : SoundRun run) (light : w < 2 ^ 24) where
     abbrev pub step-task : Task
     step-task = moved 1 (task-of (model run) n .registers) (task-of (model run) n)
 
@@ -256,13 +258,14 @@ module _ (run : Run) (n place w : ℕ) (below : n < 128) where
   store-carried a v =
       record {
         list = unfold applied in refl;
+        weights = unfold applied in refl;
         effect = λ s q light e h d. (
           stored-model s light a v ∙ ap (λ x. apply n x (model run)) (same-effect (storing w a v (task-of (model run) n)) e (unfold planned in h)),
           whole s light,
         );
       }
     where
-      whole : SoundRun run → w < 2048 → WholeRun (putting a v (onward n (passed 0 (record-of run n)) w run))
+      whole : SoundRun run → w < 2 ^ 24 → WholeRun (putting a v (onward n (passed 0 (record-of run n)) w run))
       whole s light =
           let h = onward-whole run n below s (passed 0 (record-of run n)) w refl light in
           record {
@@ -305,11 +308,11 @@ module _ (run : Run) (n w : ℕ) where
 
 -- A step that is accepted.
 pub step-taken :
-    (run : Run) (n place w : ℕ) (p : StepPlan) (r : Run) → holds-back p ≡ false → w < 2048
+    (run : Run) (n place w : ℕ) (p : StepPlan) (r : Run) → holds-back p ≡ false → w < 2 ^ 24
     → (SoundRun run → Placed run n place × (decided run step n ≡ planned run n w p)) → Carries n place w p run r
     → CalledAs step run n (record { answer = Answers.Accepted; run = r })
 step-taken run n place w p r free light h c =
-    called-taken step run n (plan-effect run n w p) r (c .list) (λ s. h s .1 ∙ accepted-plan run n w p free)
+    called-taken step run n (plan-effect run n w p) r (c .list) (c .weights) (λ s. h s .1 ∙ accepted-plan run n w p free)
     (λ s.
     let a = accepted-plan run n w p free in
     c .effect s (h s .0) light (plan-effect run n w p) a (h s .1 ∙ a))

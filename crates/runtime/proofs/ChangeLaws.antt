@@ -6,7 +6,7 @@ use mathlib.Core.Bool.{Bool, true, false, not, _||_, false≢true}
 use native.Mathlib.Omega.{arith}
 use native.Mathlib.Decide.{ℕ-discrete}
 use native.Mathlib.Numerals.{sub-one}
-use lib.ListN.{length, take, set}
+use lib.ListN.{length, take, getD, set}
 use lib.Seq.{set-getD}
 use lib.Dec.{leb, eqb}
 use borrow.Author.Tests.{leb-false, eq-eqb, ne-eqb}
@@ -16,7 +16,7 @@ use Rattle.semantics.specs.declared.Record.{Record}
 use Rattle.semantics.specs.declared.CallRefusal.{CallRefusal}
 use Rattle.semantics.specs.declared.Answer.{Answer}
 use Rattle.semantics.specs.declared.Answer.the-variants as Answers
-use Rattle.semantics.specs.Run.{task-of}
+use Rattle.semantics.specs.Run.{weight-of, start-weight, end-weight, task-of}
 use Rattle.semantics.specs.Plan.{Action, start, step, «end», at-end}
 use Rattle.semantics.specs.Call.{Outcome, refuse, accept, apply, after-all}
 use Rattle.semantics.specs.Sequential.{made-by}
@@ -45,11 +45,11 @@ use Rattle.runtime.proofs.CarryLaws.{onward, putting, holds-back, step-
 module _ (run : Run) (s : SoundRun run) where
   same-calls : (run .calls + 0) % 2 ^ 32 ≡ run .calls
   unfolding model
-  same-calls = omega (arith, calls-most (context-of run) 128 (model run) (s .sound))
+  same-calls = omega (arith, calls-most (context-of run) 16000 (model run) (s .sound))
 
   same-weight : (run .weight + 0) % 2 ^ 32 ≡ run .weight
   unfolding model
-  same-weight = omega (arith, weight-most (list-of (run .tables)) (model run) (s .sound))
+  same-weight = omega (arith, weight-most (context-of run) (model run) (s .sound))
 
   kept-same : (n : ℕ) (t : Record) (k : CallRefusal) → record-of run n ≡ t → put n (kept t (run .left) k) run ≡ run
   kept-same n t k q =
@@ -65,6 +65,7 @@ module _ (run : Run) (s : SoundRun run) where
         left = run .left;
         calls = cs i;
         weight = ws i;
+        weights = run .weights;
       }
 
 module _ (a : Action) (run : Run) (n : ℕ) where
@@ -75,6 +76,7 @@ module _ (a : Action) (run : Run) (n : ℕ) where
   kept-calls t k q h =
       record {
         list = refl;
+        weights = refl;
         run =
             λ s.
             ap model (kept-same run s n t k q)
@@ -112,6 +114,7 @@ module _ (a : Action) (run : Run) (n : ℕ) (c : Change) (next : Run) (h : Chang
               left = c .left;
               calls = k;
               weight = w;
+              weights = next .weights;
             };
       }
 
@@ -126,12 +129,14 @@ module _ (a : Action) (run : Run) (n : ℕ) (c : Change) (next : Run) (h : Chang
 -- A start that is accepted.
 pub start-changed :
     (run : Run) (n : ℕ) (t : Record) → record-of run n ≡ t → n < 128
-    → (SoundRun run → decided run start n ≡ accept (start-effect run n)) → (c : Change) → c ≡ counted (with-state 2 t) (run .left) 5
+    → (SoundRun run → decided run start n ≡ accept (start-effect run n)) → (weights : List ℕ) → run .weights ≡ weights
+    → (w : ℕ) → w ≡ getD weights 0 0 → (c : Change) → c ≡ counted (with-state 2 t) (run .left) w
     → ChangeOf start n run (put n c run) (c .answer)
-unfolding applied
-start-changed run n t q below h c e =
-    subst (λ x. ChangeOf start n run (put n x run) (x .answer)) (sym e)
-    (subst (λ x. CalledAs start run n (record { answer = Answers.Accepted; run = put n (counted (with-state 2 x) (run .left) 5) run })) q
+unfolding applied weight-of
+start-changed run n t q below h weights table w is c e =
+    let weighs : w ≡ start-weight (context-of run) = is ∙ ap (λ (ws : List ℕ). getD ws 0 0) (sym table) in
+    subst (λ x. ChangeOf start n run (put n x run) (x .answer)) (sym (e ∙ ap (counted (with-state 2 t) (run .left)) weighs))
+    (subst (λ x. CalledAs start run n (record { answer = Answers.Accepted; run = put n (counted (with-state 2 x) (run .left) (start-weight (context-of run))) run })) q
     (start-taken run n below h))
 
 -- An end that is accepted.
@@ -144,17 +149,21 @@ module _
     → take (run .left - 1) o ≡ without place (take (run .left) (run .order)))
   where
     abbrev ended-run : Record → Run
-    ended-run x = put n (counted (with-state 3 x) (run .left - 1) 2) (ordered o (run .left) run)
+    ended-run x = put n (counted (with-state 3 x) (run .left - 1) (end-weight (context-of run))) (ordered o (run .left) run)
 
     ended-as : EndedAs n place run (ended-run (record-of run n))
     unfolding applied
     ended-as = record { run = refl; whole = λ w. whole ∙ w; order = out }
 
     pub end-changed :
-        (c : Change) → c ≡ counted (with-state 3 t) (run .left - 1) 2
+        (weights : List ℕ) → run .weights ≡ weights → (w : ℕ) → w ≡ getD weights 1 0 → (c : Change)
+        → c ≡ counted (with-state 3 t) (run .left - 1) w
         → ChangeOf «end» n run (put n c (ordered o (run .left) run)) (c .answer)
-    end-changed c e =
-        subst (λ x. ChangeOf «end» n run (put n x (ordered o (run .left) run)) (x .answer)) (sym e)
+    unfolding weight-of
+    end-changed weights table w is c e =
+        let weighs : w ≡ end-weight (context-of run) = is ∙ ap (λ (ws : List ℕ). getD ws 1 0) (sym table) in
+        subst (λ x. ChangeOf «end» n run (put n x (ordered o (run .left) run)) (x .answer))
+        (sym (e ∙ ap (counted (with-state 3 t) (run .left - 1)) weighs))
         (subst (λ x. CalledAs «end» run n (record { answer = Answers.Accepted; run = ended-run x })) q
         (end-taken run n place (ended-run (record-of run n)) below h ended-as))
 
@@ -177,7 +186,7 @@ module _ (run : Run) (n : ℕ) (t : Record) (same : record-of run n ≡ t) where
 
   -- a plan of the task at this place
   module _
-      (place w : ℕ) (light : w < 2048) (below : n < 128) (p : StepPlan)
+      (place w : ℕ) (light : w < 2 ^ 24) (below : n < 128) (p : StepPlan)
       (there : SoundRun run → Placed run n place × (decided run step n ≡ planned run n w p))
     where
       pub step-held : (k : CallRefusal) → p ≡ Planned.Held k → (c : Change) → c ≡ kept t (run .left) k → StepOf run run n c
@@ -196,7 +205,7 @@ module _ (run : Run) (n : ℕ) (t : Record) (same : record-of run n ≡ t) where
             λ s. ap made-by (there s .1) ∙ none,
           )
 
-  module _ (place w : ℕ) (light : w < 2048) (below : n < 128) where
+  module _ (place w : ℕ) (light : w < 2 ^ 24) (below : n < 128) where
     abbrev Decided : StepPlan → Type 0
     Decided p = SoundRun run → Placed run n place × (decided run step n ≡ planned run n w p)
 
@@ -234,6 +243,7 @@ module _ (run : Run) (n : ℕ) (t : Record) (same : record-of run n ≡ t) where
         step-own place w light below (Planned.Store a v) there (left-as m) refl refl (passed 0 t)
         (record {
           list = refl;
+          weights = refl;
           effect = λ s p l x h d. subst (λ k. (model (after k) ≡ apply n x (model run)) × WholeRun (after k)) (sym (q (s .memory))) (stored .effect s p l x h d);
         }) c e
       where
@@ -250,7 +260,7 @@ module _ (run : Run) (n : ℕ) (t : Record) (same : record-of run n ≡ t) where
     pub step-spawn :
         (s f first k : ℕ) (next : Run) (c : Change) → Decided (Planned.Make s f first k) → c .answer ≡ Answers.Accepted
         → Carries n place w (Planned.Make s f first k) run (with-made c (put n c next))
-        → (SoundRun run → Placed run n place → w < 2048 → decided run step n ≡ planned run n w (Planned.Make s f first k) → Makes run n c)
+        → (SoundRun run → Placed run n place → w < 2 ^ 24 → decided run step n ≡ planned run n w (Planned.Make s f first k) → Makes run n c)
         → StepOf run next n c
     step-spawn s f first k next c there q h m = (
       subst (ChangeOf step n run (with-made c (put n c next))) (sym q)

@@ -2,14 +2,14 @@
 use Prim.Native.Nat.{ℕ, zero, suc}
 use mathlib.Core.Path.{_≡_, refl, sym, ap, subst, _∙_}
 use mathlib.Core.List.{List, [], _∷_, _++_}
-use Rattle.tasklist.specs.Tables.{list-of}
-use Rattle.semantics.specs.Run.{Context, context}
+use Rattle.semantics.specs.Run.{Context}
 use Rattle.semantics.specs.Run as Semantics
 use Rattle.semantics.specs.Plan.{Action, start, step, «end»}
 use Rattle.semantics.specs.Call.{Call, after, after-all}
 use Rattle.runtime.specs.declared.Run.{Run}
 use Rattle.runtime.specs.View.{model, context-of, SoundRun}
 use Rattle.runtime.specs.Calls.{calls-of-kind, call-of, CallsMade}
+use Rattle.runtime.proofs.ViewLaws.{same-context}
 
 pub after-append :
     (c : Context) (r : Semantics.Run) (bs ds : List Call) → after-all c r (bs ++ ds) ≡ after-all c (after-all c r bs) ds
@@ -20,7 +20,7 @@ after-append c r (b ∷ bs) ds = after-append c (after c r b) bs ds
 -- none
 pub no-calls : (r : Run) → CallsMade [] r r
 unfolding after-all
-no-calls r = record { list = refl; run = λ s. refl; sound = λ s. s }
+no-calls r = record { list = refl; weights = refl; run = λ s. refl; sound = λ s. s }
 
 -- one after the other
 pub calls-append :
@@ -28,10 +28,11 @@ pub calls-append :
 calls-append bs ds a b d h k =
     record {
       list = k .list ∙ h .list;
+      weights = k .weights ∙ h .weights;
       run =
           λ s.
           k .run (h .sound s)
-          ∙ ap (λ t. after-all (context (list-of t)) (model b) ds) (h .list)
+          ∙ ap (λ c. after-all c (model b) ds) (same-context b a (h .list) (h .weights))
           ∙ ap (λ m. after-all (context-of a) m ds) (h .run s)
           ∙ sym (after-append (context-of a) (model a) bs ds);
       sound = λ s. k .sound (h .sound s);

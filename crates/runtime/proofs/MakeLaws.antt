@@ -1,5 +1,5 @@
 -- Tasks that one step makes: what they are granted, and what becomes of the records, the rows and the order. Assumes nothing.
-use Prim.Native.Nat.{ℕ, zero, suc, _+_, _-_, _*_, _≤_, _<_}
+use Prim.Native.Nat.{ℕ, zero, suc, _+_, _-_, _*_, _^_, _≤_, _<_}
 use mathlib.Core.Path.{_≡_, refl, sym, ap, subst, _∙_}
 use mathlib.Core.List.{List, [], _∷_, _++_, map}
 use mathlib.Core.Bool.{false}
@@ -207,7 +207,7 @@ module _
         ap made-by (d ∙ by-children (none-made j) (none-born j q s)) ∙ (unfold plan-make settle admit every in refl)
 
     -- all are made
-    module _ (yes-granted : g .grant ≡ Granted.Granted) (s : SoundRun run) (light : w < 2048) where
+    module _ (yes-granted : g .grant ≡ Granted.Granted) (s : SoundRun run) (light : w < 2 ^ 24) where
       all-born : AllBorn body lines seen 0 k (g .modes)
       all-born = children-granted body lines seen k 0 no-modes (g .modes) (grant-is s ∙ ap (λ x. granted-by x (g .modes)) yes-granted)
 
@@ -321,6 +321,7 @@ module _
                       left = run .left + k;
                       calls = stepped .calls;
                       weight = stepped .weight;
+                      weights = stepped .weights;
                     }
 
                 abbrev given-row : ℕ → List ℕ
@@ -409,7 +410,7 @@ module _
         g .grant ≡ Granted.Granted → (child apart : ℕ)
         → (n < 128 → child ≡ number-by (run .tables) n (record-of run n .body) (record-of run n .pc))
         → apart ≡ getD (run .tables .counts) body 1
-        → SoundRun run → w < 2048 → Placed run n place → decided run step n ≡ planned run n w plan
+        → SoundRun run → w < 2 ^ 24 → Placed run n place → decided run step n ≡ planned run n w plan
         → (made-by (decided run step n) ≡ numbers child apart k) × Fit (run .left) child apart k
     granted-makes q child apart counted far s light p d =
         let d′ : decided run step n ≡ accept (made-effect q s light) = d ∙ made-planned q s light in
@@ -436,11 +437,13 @@ module _
           left = run .left + k;
           calls = onward n (passed 0 (record-of run n)) w run .calls;
           weight = onward n (passed 0 (record-of run n)) w run .weight;
+          weights = run .weights;
         })
     unfolding applied
     made-carried q child apart counted far modes order put-in put-order whole =
         record {
           list = refl;
+          weights = refl;
           effect =
               λ s p light e h d.
               let same : made-effect q s light ≡ e = same-effect (made-effect q s light) e (sym (made-planned q s light) ∙ h) in

@@ -1,5 +1,5 @@
 -- What the change of a step that makes tasks comes to. Assumes nothing.
-use Prim.Native.Nat.{ℕ, _+_, _*_, _≤_, _<_}
+use Prim.Native.Nat.{ℕ, _+_, _*_, _^_, _≤_, _<_}
 use mathlib.Core.Path.{_≡_, refl, sym, ap, subst, _∙_}
 use mathlib.Core.List.{List}
 use native.Mathlib.Omega.{arith}
@@ -50,7 +50,7 @@ bearing body first k t left w child apart =
 abbrev pub SpawnOf : ℕ → ℕ → ℕ → ℕ → ℕ → ℕ → ℕ → Run → Run → Change → Type 0
 SpawnOf n place w body f first k from next c =
     Carries n place w (Planned.Make body f first k) from (with-made c (put n c next))
-    × (SoundRun from → Placed from n place → w < 2048 → decided from step n ≡ planned from n w (Planned.Make body f first k) → Makes from n c)
+    × (SoundRun from → Placed from n place → w < 2 ^ 24 → decided from step n ≡ planned from n w (Planned.Make body f first k) → Makes from n c)
 
 -- By the task's record and what the footprint grants.
 module _
@@ -93,11 +93,11 @@ module _
             → SpawnOf n place w body f first k run run c
         spawn-full full t c e =
             subst (SpawnOf n place w body f first k run run) (sym e) (
-              record { list = refl; effect = λ s p light x h d. absurd (never s light p (d ∙ sym h)) },
+              record { list = refl; weights = refl; effect = λ s p light x h d. absurd (never s light p (d ∙ sym h)) },
               λ s p light d. absurd (never s light p d),
             )
           where
-            never : SoundRun run → w < 2048 → Placed run n place → decided run step n ≡ planned run n w (Planned.Make body f first k) → ⊥
+            never : SoundRun run → w < 2 ^ 24 → Placed run n place → decided run step n ≡ planned run n w (Planned.Make body f first k) → ⊥
             never s light p d =
                 full (granted-makes run n place w below body f first k g mine rows grants-own q child apart count-own far s light p d .1)
 

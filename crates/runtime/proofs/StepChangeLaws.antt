@@ -8,14 +8,13 @@ use native.Mathlib.Nat.{mul-le-mul}
 use Rattle.tasklist.specs.declared.Instruction.{Instruction}
 use Rattle.tasklist.specs.declared.Tables.{Tables}
 use Rattle.tasklist.specs.Encode.{instruction-fields}
-use Rattle.tasklist.specs.TaskList.{TaskList, body-of, instruction-of}
+use Rattle.tasklist.specs.TaskList.{body-of, instruction-of}
 use Rattle.tasklist.specs.Tables.{list-of}
 use Rattle.semantics.specs.declared.Record.{Record}
 use Rattle.semantics.specs.declared.CallRefusal.{CallRefusal}
 use Rattle.semantics.specs.declared.Answer.the-variants as Answers
-use Rattle.semantics.specs.Run.{context, weight-of}
+use Rattle.semantics.specs.Run.{weight-of}
 use Rattle.semantics.specs.Plan.{step, units}
-use Rattle.semantics.proofs.Bounds.{fixed-light}
 use Rattle.runtime.specs.declared.Run.{Run}
 use Rattle.runtime.specs.declared.Called.{Called}
 use Rattle.runtime.specs.declared.Change.{Change}
@@ -33,26 +32,25 @@ use Rattle.runtime.proofs.StepLaws.{step-settled}
 use Rattle.runtime.proofs.ChangeLaws.{step-refused, step-held, step-fault, step-assign, step-pass, step-store, step-spawn, none-fits, ends}
 
 -- what an instruction weighs
-weighs-little : (l : TaskList) (place count : ℕ) → count < 256 → count * weight-of (context l) place < 2048
-weighs-little l place count h =
-    let w = fixed-light l place in
-    let m = mul-le-mul {n₁ = count} {m₁ = weight-of (context l) place} {n₂ = 255} {m₂ = 8} (omega arith) (omega (arith, w)) in
+weighs-little : (number count : ℕ) → number < 65536 → count < 256 → count * number < 2 ^ 24
+weighs-little number count l h =
+    let m = mul-le-mul {n₁ = count} {m₁ = number} {n₂ = 255} {m₂ = 65535} (omega arith) (omega arith) in
     omega (arith, m)
 
-module _ (tables : Tables) (memory modes order : List ℕ) (left : ℕ) (own : Record) (n : ℕ) where
+module _ (tables : Tables) (memory modes order : List ℕ) (left : ℕ) (own : Record) (n : ℕ) (weights : List ℕ) where
   -- a run with the parts
   abbrev from : Run → Run
   from run = with-parts tables memory modes order left run
 
   abbrev Stepped : List ℕ → List ℕ → List ℕ → Change → Type 0
-  Stepped memory′ modes′ order′ c = SteppedBy tables memory modes order memory′ modes′ order′ left own n c
+  Stepped memory′ modes′ order′ c = SteppedBy tables memory modes order memory′ modes′ order′ left own n weights c
 
   -- the task stands at this place, and its step comes to this plan, under weight w
   pub record StepsBy (place w : ℕ) (p : StepPlan) : Type 0 where
     pub below : n < 128
-    pub light : w < 2048
+    pub light : w < 2 ^ 24
     pub decides :
-        (run : Run) → record-of run n ≡ own → SoundRun (from run)
+        (run : Run) → record-of run n ≡ own → run .weights ≡ weights → SoundRun (from run)
         → Placed (from run) n place × (decided (from run) step n ≡ planned (from run) n w p)
 
   module _ (size : ℕ) (fits : size ≡ length (body-of (list-of tables) (own .body))) where
@@ -61,25 +59,28 @@ module _ (tables : Tables) (memory modes order : List ℕ) (left : ℕ) (own : R
         → Stepped memory modes order c
     change-before k ready c e = (
       none-fits c (ap (λ (x : Change). x .children) e),
-      λ run same. step-refused (from run) n own same k (ready (from run) same fits) c e,
+      λ run same table. step-refused (from run) n own same k (ready (from run) same fits) c e,
     )
 
     pub steps-by :
         (place : ℕ) → ReadyIn order left own size n (At place) → (i : Instruction)
         → i ≡ instruction-of (list-of tables) (own .body) (own .pc) → (code : ℕ) → code ≡ getD (instruction-fields i) 0 0
         → (p : StepPlan) → PlansIn order modes memory (own .registers) n place i p → (count : ℕ) → count ≡ units i → count < 256
-        → StepsBy place (count * weight-of (context (list-of tables)) (code + 2)) p
-    steps-by place ready i at code is p plans count often few =
+        → (number : ℕ) → number ≡ getD weights (code + 2) 0 → number < 65536
+        → StepsBy place (count * number) p
+    unfolding weight-of
+    steps-by place ready i at code is p plans count often few number weighs light =
         record {
           below = ready .0;
-          light = weighs-little (list-of tables) (code + 2) count few;
+          light = weighs-little number count light few;
           decides =
-              λ run same s. (
+              λ run same table s. (
                 ready .3 (from run) s,
                 step-settled (from run) n (ready .0) s place (ready .3 (from run) s) (ap (λ (t : Record). t .state) same ∙ ready .1)
                     (finished size own) (ends (from run) n size own (ready .0) same fits s) (ready .2) i code count
                     (at ∙ sym (ap (λ (t : Record). instruction-of (list-of tables) (t .body) (t .pc)) same)) is often p
-                    (plans (from run) refl (ap (λ (t : Record). t .registers) same)),
+                    (plans (from run) refl (ap (λ (t : Record). t .registers) same))
+                    ∙ ap (λ k. planned (from run) n (count * k) p) (ap (λ (ws : List ℕ). getD ws (code + 2) 0) table ∙ sym weighs),
               );
         }
 
@@ -89,11 +90,11 @@ module _ (tables : Tables) (memory modes order : List ℕ) (left : ℕ) (own : R
         (k : CallRefusal) → p ≡ Planned.Held k → (c : Change) → c ≡ kept own left k → Stepped memory modes order c
     change-held k q c e = (
       none-fits c (ap (λ (x : Change). x .children) e),
-      λ run same. step-held (from run) n own same place w (b .light) (b .below) p (b .decides run same) k q c e,
+      λ run same table. step-held (from run) n own same place w (b .light) (b .below) p (b .decides run same table) k q c e,
     )
 
     decides-as :
-        (x : StepPlan) → p ≡ x → (run : Run) → record-of run n ≡ own → SoundRun (from run)
+        (x : StepPlan) → p ≡ x → (run : Run) → record-of run n ≡ own → run .weights ≡ weights → SoundRun (from run)
         → Placed (from run) n place × (decided (from run) step n ≡ planned (from run) n w x)
     decides-as x q = subst (StepsBy place w) q b .decides
 
@@ -102,8 +103,8 @@ module _ (tables : Tables) (memory modes order : List ℕ) (left : ℕ) (own : R
         → Stepped memory modes order c
     change-fault k q t f c e = (
       none-fits c (ap (λ (x : Change). x .children) e),
-      λ run same.
-          step-fault (from run) n own same place w (b .light) (b .below) k (decides-as (Planned.Fault k) q run same) c
+      λ run same table.
+          step-fault (from run) n own same place w (b .light) (b .below) k (decides-as (Planned.Fault k) q run same table) c
           (e ∙ ap (λ x. counted x left w) f),
     )
 
@@ -112,8 +113,8 @@ module _ (tables : Tables) (memory modes order : List ℕ) (left : ℕ) (own : R
         → c ≡ counted t left w → Stepped memory modes order c
     change-assign a v q s t f g c e = (
       none-fits c (ap (λ (x : Change). x .children) e),
-      λ run same.
-          step-assign (from run) n own same place w (b .light) (b .below) a v (decides-as (Planned.Assign a v) q run same) c
+      λ run same table.
+          step-assign (from run) n own same place w (b .light) (b .below) a v (decides-as (Planned.Assign a v) q run same table) c
           (e ∙ ap (λ x. counted x left w) (g ∙ ap (holding a v) f)),
     )
 
@@ -122,8 +123,8 @@ module _ (tables : Tables) (memory modes order : List ℕ) (left : ℕ) (own : R
         → Stepped memory modes order c
     change-pass k small q t f c e = (
       none-fits c (ap (λ (x : Change). x .children) e),
-      λ run same.
-          step-pass (from run) n own same place w (b .light) (b .below) k small (decides-as (Planned.Pass k) q run same) c
+      λ run same table.
+          step-pass (from run) n own same place w (b .light) (b .below) k small (decides-as (Planned.Pass k) q run same table) c
           (e ∙ ap (λ x. counted x left w) f),
     )
 
@@ -132,8 +133,8 @@ module _ (tables : Tables) (memory modes order : List ℕ) (left : ℕ) (own : R
         → c ≡ counted t left w → Stepped m modes order c
     change-store a v q t f m g c e = (
       none-fits c (ap (λ (x : Change). x .children) e),
-      λ run same.
-          step-store (from run) n own same place w (b .light) (b .below) a v m g (decides-as (Planned.Store a v) q run same) c
+      λ run same table.
+          step-store (from run) n own same place w (b .light) (b .below) a v m g (decides-as (Planned.Store a v) q run same table) c
           (e ∙ ap (λ x. counted x left w) f),
     )
 
@@ -143,15 +144,15 @@ module _ (tables : Tables) (memory modes order : List ℕ) (left : ℕ) (own : R
         → Stepped memory modes′ order′ c
     change-spawn s f first k q modes′ order′ c h = (
       h .1,
-      λ run same.
+      λ run same table.
           step-spawn (from run) n own same place w (b .light) (b .below) s f first k (with-parts tables memory modes′ order′ left run) c
-          (decides-as (Planned.Make s f first k) q run same) (h .0) (h .2 (from run) same .0) (h .2 (from run) same .1),
+          (decides-as (Planned.Make s f first k) q run same table) (h .0) (h .2 (from run) same .0) (h .2 (from run) same .1),
     )
 
 -- The change put into the run.
 module _
     (run : Run) (n : ℕ) (memory modes order : List ℕ) (c : Change)
-    (h : SteppedBy (run .tables) (run .memory) (run .modes) (run .order) memory modes order (run .left) (record-of run n) n c)
+    (h : SteppedBy (run .tables) (run .memory) (run .modes) (run .order) memory modes order (run .left) (record-of run n) n (run .weights) c)
   where
     abbrev lent : Run
     lent = with-parts (run .tables) memory modes order (run .left) run
@@ -159,7 +160,7 @@ module _
     pub stepped-refused :
         (k : CallRefusal) → c .answer ≡ Answers.Refused k → CalledAs step run n (record { answer = Answers.Refused k; run = run })
     stepped-refused k q =
-        called-refused step run n k (subst (ChangeOf step n run (with-made c (put n c lent))) q (h .1 run refl .0) .0)
+        called-refused step run n k (subst (ChangeOf step n run (with-made c (put n c lent))) q (h .1 run refl refl .0) .0)
 
     -- accepted, with the counters as they were added up
     module _
@@ -180,6 +181,7 @@ module _
                     left = c .left;
                     calls = k;
                     weight = w;
+                    weights = run .weights;
                   };
             }
 
@@ -198,4 +200,4 @@ module _
         stepped-taken records w =
             added records
             (subst (λ rs. CalledAs step run n (next rs ((run .calls + c .calls) % 2 ^ 32) ((run .weight + c .weight) % 2 ^ 32))) (sym w)
-            (subst (ChangeOf step n run (with-made c (put n c lent))) q (h .1 run refl .0)))
+            (subst (ChangeOf step n run (with-made c (put n c lent))) q (h .1 run refl refl .0)))

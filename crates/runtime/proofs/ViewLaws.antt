@@ -8,14 +8,19 @@ use lib.Dec.{leb}
 use borrow.Author.Tests.{leb-true, leb-false}
 use native.Mathlib.Nat.{add-zero, zero-add}
 use lib.ListN.{length, getD, set, replicate, List·getD-eq-default}
+use Rattle.tasklist.specs.Tables.{list-of}
 use Rattle.semantics.specs.declared.Record.{Record}
-use Rattle.semantics.specs.Run.{Task, never, no-modes, mode-of, task-of}
+use Rattle.semantics.specs.Run.{Task, context, never, no-modes, mode-of, task-of}
 use Rattle.semantics.specs.Run as Semantics
 use Rattle.semantics.specs.Answers.{task-from}
 use Rattle.arrays.specs.Rows.{row}
 use Rattle.arrays.proofs.RowLaws.{row-beyond}
 use Rattle.runtime.specs.declared.Run.{Run}
-use Rattle.runtime.specs.View.{tasks-from, model, blank-record}
+use Rattle.runtime.specs.View.{tasks-from, model, context-of, blank-record}
+
+-- the same list and the same weights
+pub same-context : (a b : Run) → a .tables ≡ b .tables → a .weights ≡ b .weights → context-of a ≡ context-of b
+same-context a b t w = λ i. context (list-of (t i)) (w i)
 
 -- a run of the model is its parts
 pub same-run :

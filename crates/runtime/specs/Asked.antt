@@ -21,28 +21,32 @@ use Rattle.runtime.specs.declared.Queued.{Queued}
 use Rattle.runtime.specs.declared.Queued.the-variants as Queueing
 use Rattle.runtime.specs.View.{model, SoundRun, blank-run}
 
--- "Open and hand run: as check, then 8, library length not C."
+-- "Open and hand run: as check, then 8, library length not C."; request 105: "After 8: 21 wrong length, 22 a number not in 1 to
+-- 1000."
 unfoldable pub open-number : OpenAnswer → ℕ
 open-number Opening.Accepted = 0
 open-number (Opening.Refused k) = Listed.refusal-number k
 open-number Opening.Length = 8
+open-number Opening.Table = 21
+open-number Opening.Weight = 22
 
 -- "A refusal returns its number alone": the run is the blank one
 pub record Unopened (k : ℕ) (r : Opened) : Type 0 where
   pub answer : open-number (r .answer) ≡ k
   pub run : r .run ≡ blank-run
 
--- a run of the list that the bytes hold
-pub record Running (bytes : List ℕ) (given : Semantics.Run) (r : Opened) : Type 0 where
+-- a run of the list that the bytes hold, under these weights
+pub record Running (bytes weights : List ℕ) (given : Semantics.Run) (r : Opened) : Type 0 where
   pub answer : open-number (r .answer) ≡ 0
   pub run : model (r .run) ≡ given
   pub list : decode bytes ≡ accepted (list-of (r .run .tables))
+  pub table : r .run .weights ≡ weights
   pub sound : SoundRun (r .run)
 
 -- what open and the sequential run answer
-abbrev pub OpenedAs : List ℕ → Asked Semantics.Run → Opened → Type 0
-OpenedAs bytes (denies k) r = Unopened k r
-OpenedAs bytes (gives given) r = Running bytes given r
+abbrev pub OpenedAs : List ℕ → List ℕ → Asked Semantics.Run → Opened → Type 0
+OpenedAs bytes weights (denies k) r = Unopened k r
+OpenedAs bytes weights (gives given) r = Running bytes weights given r
 
 -- a value, or the refusal of it
 abbrev pub unless-refused : {A : Type 0} → Answer → A → Asked A

@@ -25,8 +25,9 @@ pub record CalledAs (a : Action) (from : Run) (n : ℕ) (r : Called) : Type 0 wh
   -- the run after the call
   pub run : SoundRun from → model (r .run) ≡ after (context-of from) (model from) (call-of a n)
   pub sound : SoundRun from → SoundRun (r .run)
-  -- of every run: the list is kept, and "a refused call leaves it as it was"
+  -- of every run: the list and the weights are kept, and "a refused call leaves it as it was"
   pub list : r .run .tables ≡ from .tables
+  pub weights : r .run .weights ≡ from .weights
   pub refused : (k : CallRefusal) → r .answer ≡ Refused k → r .run ≡ from
 
 -- "0 start, 1 step, 2 end, then the job"; another kind is no call
@@ -39,5 +40,6 @@ calls-of-kind (suc (suc (suc k))) n = []
 -- these calls on the run `from`, one after the other, and the run that they leave
 pub record CallsMade (calls : List Call) (from r : Run) : Type 0 where
   pub list : r .tables ≡ from .tables
+  pub weights : r .weights ≡ from .weights
   pub run : SoundRun from → model r ≡ after-all (context-of from) (model from) calls
   pub sound : SoundRun from → SoundRun r

@@ -41,6 +41,7 @@ with-parts tables memory modes order left run =
       left = left;
       calls = run .calls;
       weight = run .weight;
+      weights = run .weights;
     }
 
 -- a run with this order
@@ -123,6 +124,7 @@ put n c run =
       left = c .left;
       calls = (run .calls + c .calls) % 2 ^ 32;
       weight = (run .weight + c .weight) % 2 ^ 32;
+      weights = run .weights;
     }
 
 -- the records with those of the first k children written, the last of them first
@@ -143,6 +145,7 @@ with-made c run =
       left = run .left;
       calls = run .calls;
       weight = run .weight;
+      weights = run .weights;
     }
 
 -- a call on task n of the run `from`, answered so, leaves the run `next`
@@ -151,17 +154,17 @@ ChangeOf a n from next (Answers.Refused k) =
     (SoundRun from → decided from a n ≡ refuse (refusal-number k)) × CallsMade (call-of a n ∷ []) from next
 ChangeOf a n from next Answers.Accepted = CalledAs a from n (record { answer = Answers.Accepted; run = next })
 
--- a start, by the order, the modes and the task's own record
-abbrev pub StartedBy : List ℕ → List ℕ → ℕ → Record → ℕ → Change → Type 0
-StartedBy order modes left own n c =
-    (run : Run) → record-of run n ≡ own
+-- a start, by the order, the modes, the task's own record and the weights
+abbrev pub StartedBy : List ℕ → List ℕ → ℕ → Record → ℕ → List ℕ → Change → Type 0
+StartedBy order modes left own n weights c =
+    (run : Run) → record-of run n ≡ own → run .weights ≡ weights
     → ChangeOf start n (with-parts (run .tables) (run .memory) modes order left run)
     (put n c (with-parts (run .tables) (run .memory) modes order left run)) (c .answer)
 
 -- an end, which leaves the order `after`
-abbrev pub EndedBy : List ℕ → List ℕ → ℕ → Record → ℕ → ℕ → Change → Type 0
-EndedBy order after left own size n c =
-    (run : Run) → record-of run n ≡ own → BodySize size own run
+abbrev pub EndedBy : List ℕ → List ℕ → ℕ → Record → ℕ → ℕ → List ℕ → Change → Type 0
+EndedBy order after left own size n weights c =
+    (run : Run) → record-of run n ≡ own → run .weights ≡ weights → BodySize size own run
     → ChangeOf «end» n (ordered order left run) (put n c (ordered after left run)) (c .answer)
 
 -- these are the tasks that a step of task n makes, foremost first
@@ -181,14 +184,14 @@ SpawnedBy tables modes order modes′ order′ left own n place body f first k w
     × ((run : Run) → record-of run n ≡ own
     → let from = with-parts tables (run .memory) modes order left run in
     Carries n place w (Make body f first k) from (with-made c (put n c (with-parts tables (run .memory) modes′ order′ left run)))
-    × (SoundRun from → Placed from n place → w < 2048 → decided from step n ≡ planned from n w (Make body f first k) → Makes from n c))
+    × (SoundRun from → Placed from n place → w < 2 ^ 24 → decided from step n ≡ planned from n w (Make body f first k) → Makes from n c))
 
 -- a step, which leaves another memory, other modes and another order
 abbrev pub SteppedBy :
-    Tables → List ℕ → List ℕ → List ℕ → List ℕ → List ℕ → List ℕ → ℕ → Record → ℕ → Change → Type 0
-SteppedBy tables memory modes order memory′ modes′ order′ left own n c =
+    Tables → List ℕ → List ℕ → List ℕ → List ℕ → List ℕ → List ℕ → ℕ → Record → ℕ → List ℕ → Change → Type 0
+SteppedBy tables memory modes order memory′ modes′ order′ left own n weights c =
     Fits c
-    × ((run : Run) → record-of run n ≡ own
+    × ((run : Run) → record-of run n ≡ own → run .weights ≡ weights
     → let from = with-parts tables memory modes order left run in
     ChangeOf step n from (with-made c (put n c (with-parts tables memory′ modes′ order′ left run))) (c .answer)
     × (SoundRun from → Makes from n c))

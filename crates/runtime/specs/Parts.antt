@@ -66,8 +66,9 @@ heavier w t =
       weight = (t .weight + w) % 2 ^ 32;
     }
 
--- "job 0 alone in the order, all other records zero, calls and weight 0": the code's run of these tables and this memory
-pub record InitialOf (t : Tables) (numbers : List ℕ) (r : Run) : Type 0 where
+-- "job 0 alone in the order, all other records zero, calls and weight 0": the code's run of these tables, this memory and these
+-- weights
+pub record InitialOf (t : Tables) (numbers weights : List ℕ) (r : Run) : Type 0 where
   pub tables : r .tables ≡ t
   pub memory : length (r .memory) ≡ 64
   pub held : take (length numbers) (r .memory) ≡ numbers
@@ -77,6 +78,7 @@ pub record InitialOf (t : Tables) (numbers : List ℕ) (r : Run) : Type 0 where
   pub left : r .left ≡ 1
   pub calls : r .calls ≡ 0
   pub weight : r .weight ≡ 0
+  pub table : r .weights ≡ weights
 
 -- "number + 256 × mode" of task k, nothing where its mode is 0
 unfoldable pub shown : ℕ → ℕ → List ℕ

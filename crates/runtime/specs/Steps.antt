@@ -57,6 +57,7 @@ looking order modes run =
       left = run .left;
       calls = run .calls;
       weight = run .weight;
+      weights = run .weights;
     }
 
 -- the same by the order and the modes alone
@@ -136,7 +137,8 @@ pub record WholeRun (run : Run) : Type 0 where
 -- the run after a plan of the task at this place is carried out, under a weight that keeps the counters below 2^32
 pub record Carries (n place w : ℕ) (p : StepPlan) (from r : Run) : Type 0 where
   pub list : r .tables ≡ from .tables
+  pub weights : r .weights ≡ from .weights
   pub effect :
-      SoundRun from → Placed from n place → w < 2048 → (e : Effect) → planned from n w p ≡ accept e
+      SoundRun from → Placed from n place → w < 2 ^ 24 → (e : Effect) → planned from n w p ≡ accept e
       → decided from step n ≡ accept e
       → (model r ≡ apply n e (model from)) × WholeRun r

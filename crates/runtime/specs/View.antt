@@ -9,6 +9,7 @@ use Rattle.semantics.specs.declared.Record.{Record}
 use Rattle.semantics.specs.Run.{Task, Context, context}
 use Rattle.semantics.specs.Run as Semantics
 use Rattle.semantics.specs.Answers.{task-from}
+use Rattle.semantics.specs.Operations.{WeightsAccepted}
 use Rattle.semantics.specs.Sound.{Sound}
 use Rattle.arrays.specs.Rows.{row}
 use Rattle.runtime.specs.declared.Run.{Run}
@@ -29,9 +30,9 @@ model run =
       weight = run .weight;
     }
 
--- the run's accepted list, under the fixed weights
+-- the run's accepted list and its table of weights
 abbrev pub context-of : Run → Context
-context-of run = context (list-of (run .tables))
+context-of run = context (list-of (run .tables)) (run .weights)
 
 -- "a run that came from open, from the hand run, or from calls on such a run": open's promise and those of the calls say
 -- it of the run that they give.
@@ -46,8 +47,10 @@ pub record SoundRun (run : Run) : Type 0 where
   pub modes : length (run .modes) ≡ 8192
   pub order : length (run .order) ≡ 128
   pub left : run .left ≤ 128
-  -- bounds of the records, the memory and the counters; no call's weight is above 128, that of a fan's 16 children
-  pub sound : Sound (context-of run) 128 (model run)
+  -- the table that was accepted
+  pub weights : WeightsAccepted (run .weights)
+  -- bounds of the records, the memory and the counters; no call weighs more than 16 × 1000
+  pub sound : Sound (context-of run) 16000 (model run)
 
 -- "Never made: all zero.", but for the modes
 unfoldable pub blank-record : Record
@@ -74,4 +77,5 @@ blank-run =
       left = 0;
       calls = 0;
       weight = 0;
+      weights = replicate 12 0;
     }

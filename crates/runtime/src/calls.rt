@@ -10,15 +10,13 @@ use crate::Located;
 use crate::Run;
 use crate::carry::changed;
 use crate::carry::unchanged;
+use crate::carry::weight_at;
 use ahead::Hold;
 use arrays::Place;
 use records::in_state;
 use semantics::Answer;
 use semantics::CallRefusal;
 use semantics::Record;
-
-// "start 5, end 2, codes 0 to 8: 1, 1, 1, 1, 3, 4, 1, 8, 1"; request 104: 8 for each child of a fan
-pub const WEIGHTS: [u32; 12] = [5, 2, 1, 1, 1, 1, 3, 4, 1, 8, 1, 8];
 
 // The place of a task in the order: 9, then 10.
 pub fn place_of(order: &[u8; 128], left: usize, task: u32) -> Located
@@ -120,22 +118,30 @@ pub fn start_change<'a>(
     left: usize,
     own: Record,
     task: u32,
+    weights: [u16; 12],
 ) -> Change
-    ensures { λ r. ⌜ StartedBy (now (order .entry)) (now (modes .entry)) left own task r ⌝ }
+    ensures { λ r. ⌜ StartedBy (now (order .entry)) (now (modes .entry)) left own task weights r ⌝ }
 {
     let found = start_look(order, modes, left, own, task);
     match found {
         Located::Refused { refusal } => unchanged(own, left, refusal),
         Located::At { place: _ } => {
             let next = in_state(own, 2);
-            changed(next, left, WEIGHTS[0])
+            changed(next, left, weight_at(weights, 0))
         }
     }
 }
 
 // An end: "the job leaves the order and its state becomes 3".
-pub fn end_change(order: &mut [u8; 128], left: usize, own: Record, size: usize, task: u32) -> Change
-    ensures { λ r. ⌜ EndedBy (now (order .entry)) (now (order .exit)) left own size task r ⌝ }
+pub fn end_change(
+    order: &mut [u8; 128],
+    left: usize,
+    own: Record,
+    size: usize,
+    task: u32,
+    weights: [u16; 12],
+) -> Change
+    ensures { λ r. ⌜ EndedBy (now (order .entry)) (now (order .exit)) left own size task weights r ⌝ }
 {
     let found = end_look(order, left, own, size, task);
     match found {
@@ -143,7 +149,7 @@ pub fn end_change(order: &mut [u8; 128], left: usize, own: Record, size: usize, 
         Located::At { place } => {
             let next = in_state(own, 3);
             arrays::remove(order, left, place);
-            changed(next, fewer(left), WEIGHTS[1])
+            changed(next, fewer(left), weight_at(weights, 1))
         }
     }
 }
@@ -170,7 +176,8 @@ impl Run {
         }
         let n = task as usize;
         let own = self.records[n];
-        let change = start_change(&self.order, &self.modes, self.left, own, task);
+        let weights = self.weights;
+        let change = start_change(&self.order, &self.modes, self.left, own, task, weights);
         let answer = change.answer;
         match answer {
             Answer::Refused { refusal } => Called {
@@ -201,10 +208,11 @@ impl Run {
         }
         let n = task as usize;
         let own = self.records[n];
+        let weights = self.weights;
         let tables = self.tables;
         let size = listing::row_size(tables.bodies, &tables.sizes, 32, own.body as usize);
         let mut run = self;
-        let change = end_change(&mut run.order, self.left, own, size, task);
+        let change = end_change(&mut run.order, self.left, own, size, task, weights);
         let answer = change.answer;
         match answer {
             Answer::Refused { refusal } => Called {

@@ -1,7 +1,7 @@
 // A step carried out: the task's new record, and what else changes.
 ghost use Prim.Native.Nat.{_<_};
 ghost use mathlib.Core.Path.{_≡_};
-ghost use lib.ListN.{length, set};
+ghost use lib.ListN.{getD};
 ghost use Rattle.records.specs.Records.{with-state};
 ghost use Rattle.records.specs.Records.{passed, failed, holding, newborn};
 ghost use Rattle.runtime.specs.Changes.{kept, counted, SpawnedBy};
@@ -16,6 +16,20 @@ use semantics::CallRefusal;
 use semantics::Record;
 use tables::Grant;
 use tasklist::Tables;
+
+fn wide(x: u16) -> u32
+    ensures { λ r. ⌜ (r ≡ x) × (r < 65536) ⌝ }
+{
+    x as u32
+}
+
+// A number of the table of weights: start, end, then the codes.
+pub fn weight_at(weights: [u16; 12], place: usize) -> u32
+    requires { ⌜ place < 12 ⌝ }
+    ensures { λ r. ⌜ (r ≡ getD weights place 0) × (r < 65536) ⌝ }
+{
+    wide(weights[place])
+}
 
 // A call that is refused.
 pub fn unchanged(own: Record, left: usize, refusal: CallRefusal) -> Change

@@ -18,6 +18,8 @@ pub struct Run {
     // calls accepted, and their weight
     pub calls: u32,
     pub weight: u32,
+    // the table of weights that it was opened with (request 105): start, end, then the codes
+    pub weights: [u16; 12],
 }
 
 // What start, step and end hand back: the answer, and the run after the call, the very same one where it is refused.
@@ -33,6 +35,10 @@ pub enum OpenAnswer {
     Refused { refusal: Refusal },
     // 8: the memory's length is not C.
     Length,
+    // 21: the table of weights has another length.
+    Table,
+    // 22: a weight is not in 1 to 1000.
+    Weight,
 }
 
 // What open gives: the answer, and the run, a blank one where it is refused.

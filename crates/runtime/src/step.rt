@@ -8,13 +8,13 @@ use crate::Change;
 use crate::Located;
 use crate::Run;
 use crate::StepPlan;
-use crate::calls::WEIGHTS;
 use crate::calls::at_end;
 use crate::calls::out_of_range;
 use crate::calls::place_of;
 use crate::carry::changed;
 use crate::carry::spawned;
 use crate::carry::unchanged;
+use crate::carry::weight_at;
 use crate::parts::plan_of;
 use records::child_record;
 use records::code_of;
@@ -60,8 +60,9 @@ pub fn step_change(
     left: usize,
     own: Record,
     task: u32,
+    weights: [u16; 12],
 ) -> Change
-    ensures { λ r. ⌜ SteppedBy tables (now (memory .entry)) (now (modes .entry)) (now (order .entry)) (now (memory .exit)) (now (modes .exit)) (now (order .exit)) left own task r ⌝ }
+    ensures { λ r. ⌜ SteppedBy tables (now (memory .entry)) (now (modes .entry)) (now (order .entry)) (now (memory .exit)) (now (modes .exit)) (now (order .exit)) left own task weights r ⌝ }
 {
     let body = own.body as usize;
     let size = listing::row_size(tables.bodies, &tables.sizes, 32, body);
@@ -87,7 +88,7 @@ pub fn step_change(
                 instruction,
             );
             let count = units_of(instruction);
-            let weight = count * WEIGHTS[code + 2];
+            let weight = count * weight_at(weights, code + 2);
             match plan {
                 StepPlan::Held { refusal } => unchanged(own, left, refusal),
                 StepPlan::Fault { fault } => {
@@ -142,6 +143,7 @@ impl Run {
         }
         let n = task as usize;
         let own = self.records[n];
+        let weights = self.weights;
         let tables = self.tables;
         let mut memory = self.memory;
         let mut modes = self.modes;
@@ -154,6 +156,7 @@ impl Run {
             self.left,
             own,
             task,
+            weights,
         );
         let answer = change.answer;
         match answer {
@@ -186,6 +189,7 @@ impl Run {
                     left: change.left,
                     calls,
                     weight,
+                    weights,
                 };
                 Called {
                     answer: Answer::Accepted,

@@ -3,18 +3,21 @@
 use Prim.Native.Nat.{ℕ, zero, suc, _+_, _*_, _<_, _≤_}
 use mathlib.Core.Path.{_≡_, refl, sym, ap, subst, _∙_}
 use mathlib.Core.List.{List, [], _∷_, _++_}
-use mathlib.Core.Bool.{false}
+use mathlib.Core.Bool.{true, false, _&&_}
 use mathlib.Core.Logic.{_⊎_, inl, inr, _≢_}
 use native.Mathlib.Omega.{arith}
 use native.Mathlib.Decide.{ℕ-discrete}
 use lib.ListN.{length, getD, length-append, length-map}
-use Rattle.tasklist.specs.TaskList.{TaskList}
+use lib.Dec.{leb}
+use borrow.Author.Tests.{leb-true}
 use Rattle.tasklist.specs.Accepted.{Accepted}
-use Rattle.semantics.specs.Run.{Task, Run, Context, context, fixed-weights, weight-of, task-of}
+use Rattle.semantics.specs.Run.{Task, Run, Context, fixed-weights, weight-places, is-weight, weight-of, task-of}
+use Rattle.semantics.specs.Access.{every}
 use Rattle.semantics.specs.Effect.{Effect}
 use Rattle.semantics.specs.Call.{Call, splice, stays, places, apply}
+use Rattle.semantics.specs.Operations.{WeightsAccepted}
 use Rattle.semantics.specs.Sound.{In, Distinct, Valid, TaskSound, rank, Sound}
-use Rattle.semantics.proofs.Order.{splice-same, splice-other, splice-absent, in-splice, distinct-splice}
+use Rattle.semantics.proofs.Order.{and-left, and-right, splice-same, splice-other, splice-absent, in-splice, distinct-splice}
 use Rattle.semantics.proofs.Apply.{numbers}
 use Rattle.semantics.proofs.Decide.{Accepts}
 use Rattle.semantics.proofs.Valid.{count-law}
@@ -111,27 +114,26 @@ module _ (c : Context) (most : ℕ) (r : Run) (s : Sound c most r) where
       let n = s .valid .size in
       omega arith
 
--- "start 5, end 2, codes 0 to 8: 1, 1, 1, 1, 3, 4, 1, 8, 1", and a fan's 8 for each of at most 16 children
-pub fixed-light : (l : TaskList) (place : ℕ) → 16 * weight-of (context l) place ≤ 128
-unfolding weight-of fixed-weights
-fixed-light l zero = omega arith
-fixed-light l (suc zero) = omega arith
-fixed-light l (suc (suc zero)) = omega arith
-fixed-light l (suc (suc (suc zero))) = omega arith
-fixed-light l (suc (suc (suc (suc zero)))) = omega arith
-fixed-light l (suc (suc (suc (suc (suc zero))))) = omega arith
-fixed-light l (suc (suc (suc (suc (suc (suc zero)))))) = omega arith
-fixed-light l (suc (suc (suc (suc (suc (suc (suc zero))))))) = omega arith
-fixed-light l (suc (suc (suc (suc (suc (suc (suc (suc zero)))))))) = omega arith
-fixed-light l (suc (suc (suc (suc (suc (suc (suc (suc (suc zero))))))))) = omega arith
-fixed-light l (suc (suc (suc (suc (suc (suc (suc (suc (suc (suc zero)))))))))) = omega arith
-fixed-light l (suc (suc (suc (suc (suc (suc (suc (suc (suc (suc (suc zero))))))))))) = omega arith
-fixed-light l (suc (suc (suc (suc (suc (suc (suc (suc (suc (suc (suc (suc k)))))))))))) = omega arith
+-- an accepted table's numbers
+weight-at : (ws : List ℕ) → every is-weight ws ≡ true → (place : ℕ) → getD ws place 0 ≤ 1000
+unfolding every is-weight
+weight-at [] h place = omega arith
+weight-at (w ∷ ws) h zero =
+    leb-true w 1000 (and-right (leb 1 w) (leb w 1000) (and-left (leb 1 w && leb w 1000) (every is-weight ws) h))
+weight-at (w ∷ ws) h (suc place) = weight-at ws (and-right (leb 1 w && leb w 1000) (every is-weight ws) h) place
 
--- under these weights
-module _ (l : TaskList) (r : Run) (s : Sound (context l) 128 r) where
-  pub weight-most : r .weight ≤ 557056
-  weight-most = let h = calls-most (context l) 128 r s in let w = s .weight in omega arith
+-- "code 9's per child", of at most 16
+pub weights-light : (c : Context) → WeightsAccepted (c .weights) → (place : ℕ) → 16 * weight-of c place ≤ 16000
+unfolding weight-of
+weights-light c ok place = let h = weight-at (c .weights) (ok .each) place in omega arith
 
-  pub weights-most : (n : ℕ) → task-of r n .weight ≤ 557056
-  weights-most n = let h = calls-most (context l) 128 r s in let w = s .weights n in omega arith
+pub fixed-accepted : WeightsAccepted fixed-weights
+fixed-accepted = record { size = unfold fixed-weights weight-places in refl; each = unfold fixed-weights every is-weight in refl }
+
+-- under such a table
+module _ (c : Context) (r : Run) (s : Sound c 16000 r) where
+  pub weight-most : r .weight ≤ 69632000
+  weight-most = let h = calls-most c 16000 r s in let w = s .weight in omega arith
+
+  pub weights-most : (n : ℕ) → task-of r n .weight ≤ 69632000
+  weights-most n = let h = calls-most c 16000 r s in let w = s .weights n in omega arith

@@ -4,7 +4,7 @@ use Prim.Native.Nat.{ℕ}
 use mathlib.Core.Path.{_≡_, refl}
 use mathlib.Core.List.{List, [], _∷_, _++_}
 use mathlib.Core.Bool.{true}
-use lib.ListN.{length}
+use lib.ListN.{length, replicate}
 use Rattle.tasklist.specs.declared.Line.{Line}
 use Rattle.tasklist.specs.declared.Instruction.{Instruction}
 use Rattle.tasklist.specs.declared.Instruction.the-variants.{Const, Sub, Load, Store, Skip, Spawn, Fan}
@@ -12,9 +12,9 @@ use Rattle.tasklist.specs.TaskList.{TaskList, body-of, footprint-of, instructio
 use Rattle.tasklist.specs.Fields.{field, is-tag, tag, in-range, number, counted, many, row}
 use Rattle.tasklist.specs.Decode.{head-numbers, head, line-limit, line-ok, is-line, line, footprint, forms, form, spawn-ok, instruction-ok, is-instruction, instruction, body, list-behind, sized, finish, empty-list, decode}
 use Rattle.tasklist.specs.Decode
-use Rattle.tasklist.specs.Encode.{instruction-fields}
-use Rattle.tasklist.proofs.Cases.{P}
-use Rattle.semantics.specs.Run.{no-modes, never, fixed-weights, weight-of, root-modes, root, initial}
+use Rattle.tasklist.specs.Encode.{instruction-fields, line-fields, joined, footprint-bytes, body-bytes, head-bytes, encode}
+use Rattle.tasklist.proofs.Cases.{P-bytes, P}
+use Rattle.semantics.specs.Run.{no-modes, never, fixed-weights, weight-places, is-weight, weight-of, root-modes, root, initial}
 use Rattle.semantics.specs.Access.{every, any, only, ahead, queue, behind-writer, compatible, allowed, access-fault, reads, writes}
 use Rattle.semantics.specs.Effect.{numbered-from}
 use Rattle.semantics.specs.Footprint.{targets, all-targets, merged, unless-denied, grant, child-modes, with-first, children, fan-of}
@@ -22,9 +22,9 @@ use Rattle.semantics.specs.Plan.{unless-fault, plan-load, plan-store, pl
 use Rattle.semantics.specs.Call.{Call, hold, admit, settle, among, decide, edited, written, splice, stays, places, changes, apply, taken, call, after, after-all}
 use Rattle.semantics.specs.Search.{search-from, search, hold-number}
 use Rattle.semantics.specs.Sequential.{start-of, step-of, end-of, run-each, step-through, steps-through, enough, run-whole, sequential}
-use Rattle.semantics.specs.Operations.{queue-places}
+use Rattle.semantics.specs.Operations.{with-weights, with-list, open-asked, sequential-asked, queue-places}
 use Rattle.semantics.specs.Answers.{outcome-number}
-use Rattle.semantics.specs.Case.{Case, by-hand, by-calls, tasks-in, refused-with, memory-is, order-is, queue-is, fault-is, registers-are, calls-are, weight-is, same, is-so, answers, has-tasks, is-refused, holds, search-is}
+use Rattle.semantics.specs.Case.{Case, by-hand, by-hand-under, by-calls, tasks-in, refused-with, opens-with, memory-is, order-is, queue-is, fault-is, registers-are, calls-are, weight-is, same, is-so, answers, has-tasks, is-refused, all-so, asked-number, holds, search-is}
 
 -- two locations; footprints: read 0; read and write 0
 abbrev small : List (List Instruction) → TaskList
@@ -136,6 +136,10 @@ tower more =
     (0x4A ∷ 0x48 ∷ 1 ∷ 1 ∷ 7 ∷ 0x4A ∷ 0x46 ∷ 0 ∷ []) ++ spawner (1 ∷ 1 ∷ more) ++ spawner (2 ∷ 2 ∷ []) ++
     spawner (3 ∷ 3 ∷ []) ++ spawner (4 ∷ 4 ∷ []) ++ spawner (5 ∷ 5 ∷ []) ++ spawner (6 ∷ 6 ∷ []) ++ spawner []
 
+-- a table of weights
+abbrev primes : List ℕ
+primes = 3 ∷ 5 ∷ 7 ∷ 11 ∷ 13 ∷ 17 ∷ 19 ∷ 23 ∷ 29 ∷ 31 ∷ 37 ∷ 41 ∷ []
+
 -- start 0, step 0, step 0
 abbrev opening : List Call
 opening = start-of 0 ∷ step-of 0 ∷ step-of 0 ∷ []
@@ -225,6 +229,21 @@ cases =
     refused-with (fan-bytes 1 0 17) 5 ∷
     refused-with (fan-bytes 0 0 1) 5 ∷
     refused-with (fan-bytes 1 1 1) 5 ∷
+    -- request 105: "start, end, then codes 0 to 9, code 9's per child"; P has 3 starts and ends, 2 consts, stores and spawns, 1 load
+    by-hand-under P-bytes (5 ∷ 7 ∷ []) primes (memory-is (9 ∷ 9 ∷ []) ∷ order-is [] ∷ calls-are 13 ∷ weight-is 165 ∷ []) ∷
+    by-hand-under (encode (fanned 4 3)) (1 ∷ 2 ∷ 3 ∷ 4 ∷ []) primes
+    (memory-is (7 ∷ 7 ∷ 7 ∷ 4 ∷ []) ∷ order-is [] ∷ calls-are 15 ∷ weight-is 245 ∷ []) ∷
+    -- "21 wrong length, 22 a number not in 1 to 1000", in this order and "After 8"
+    opens-with [] (5 ∷ []) fixed-weights 0 ∷
+    opens-with [] (5 ∷ []) (replicate 11 1) 21 ∷
+    opens-with [] (5 ∷ []) (replicate 12 1) 0 ∷
+    opens-with [] (5 ∷ []) (replicate 13 1) 21 ∷
+    opens-with [] (5 ∷ []) (replicate 12 1000) 0 ∷
+    opens-with [] (5 ∷ []) (replicate 11 1 ++ (0 ∷ [])) 22 ∷
+    opens-with [] (5 ∷ []) (1001 ∷ replicate 11 1) 22 ∷
+    opens-with [] (5 ∷ []) (replicate 13 0) 21 ∷
+    opens-with [] [] (replicate 13 0) 8 ∷
+    opens-with (tower (6 ∷ 6 ∷ [])) [] (replicate 13 0) 7 ∷
     -- request 106: "An entry named twice now counts once: with the common mode, or with write where the modes differ.",
     -- whichever line is first, also by a register (R1 is 0) and in three lines
     shared (named 0 0 ∷ named 0 0 ∷ []) 257 ∷
@@ -266,5 +285,5 @@ cases =
     (fault-is 2 2 ∷ order-is (1 ∷ 2 ∷ 0 ∷ []) ∷ []) ∷ []
 
 pub cases-hold : every holds cases ≡ true
-unfolding body-of footprint-of instruction-of total adds count-body count-from counts task-count field is-tag tag in-range number counted many row head-numbers head line-limit line-ok is-line line footprint forms form spawn-ok instruction-ok is-instruction instruction body list-behind sized finish decode Decode.register instruction-fields no-modes never fixed-weights weight-of root-modes root initial every any only ahead queue behind-writer compatible allowed access-fault unless-fault plan-load plan-store plan-wait passed-over targets all-targets merged unless-denied grant child-modes with-first children fan-of numbered-from child-number plan-make plan-instruction units step-weight at-end needs-from plan-start plan-step plan-end plan hold admit search-from search hold-number settle among decide edited written splice stays places changes apply taken call after after-all run-each step-through steps-through enough run-whole sequential queue-places outcome-number same is-so answers has-tasks is-refused holds
+unfolding body-of footprint-of instruction-of total adds count-body count-from counts task-count field is-tag tag in-range number counted many row head-numbers head line-limit line-ok is-line line footprint forms form spawn-ok instruction-ok is-instruction instruction body list-behind sized finish decode Decode.register instruction-fields line-fields joined footprint-bytes body-bytes head-bytes encode no-modes never fixed-weights weight-places is-weight weight-of root-modes root initial every any only ahead queue behind-writer compatible allowed access-fault unless-fault plan-load plan-store plan-wait passed-over targets all-targets merged unless-denied grant child-modes with-first children fan-of numbered-from child-number plan-make plan-instruction units step-weight at-end needs-from plan-start plan-step plan-end plan hold admit search-from search hold-number settle among decide edited written splice stays places changes apply taken call after after-all run-each step-through steps-through enough run-whole sequential with-weights with-list open-asked sequential-asked queue-places outcome-number same is-so answers has-tasks is-refused all-so asked-number holds
 cases-hold = refl

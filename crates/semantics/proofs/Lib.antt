@@ -32,3 +32,4 @@ pub mod Bounds
 pub mod Unchanged
 pub mod Search
 pub mod Bytes
+pub mod Asked

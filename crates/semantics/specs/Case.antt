@@ -5,12 +5,12 @@ use mathlib.Core.Bool.{Bool, true, false, _&&_}
 use lib.Dec.{eqb}
 use Rattle.tasklist.specs.TaskList.{TaskList, task-count}
 use Rattle.tasklist.specs.Decode.{Decoded, refused, accepted, decode}
-use Rattle.semantics.specs.Run.{Run, Context, context, task-of, initial}
+use Rattle.semantics.specs.Run.{Run, Context, context, fixed-weights, task-of, initial}
 use Rattle.semantics.specs.Access.{Access, every}
 use Rattle.semantics.specs.Call.{Call, decide, after, after-all}
 use Rattle.semantics.specs.Search.{search, hold-number}
 use Rattle.semantics.specs.Sequential.{sequential}
-use Rattle.semantics.specs.Operations.{queue-places}
+use Rattle.semantics.specs.Operations.{Asked, denies, gives, open-asked, sequential-asked, queue-places}
 use Rattle.semantics.specs.Answers.{outcome-number}
 
 -- A fact about a run.
@@ -28,15 +28,20 @@ pub data Fact : Type 0 where
   calls-are : ℕ → Fact
   weight-is : ℕ → Fact
 
+-- Runs are under today's weights where none are given.
 pub data Case : Type 0 where
   -- the facts that hold after the sequential run of a list and a memory
   by-hand : TaskList → List ℕ → List Fact → Case
+  -- the facts that hold after the sequential run of these bytes, a memory and a table of weights
+  by-hand-under : List ℕ → List ℕ → List ℕ → List Fact → Case
   -- what calls from the initial run answer, each 0 or its refusal, and the facts that hold after them
   by-calls : TaskList → List ℕ → List Call → List ℕ → List Fact → Case
   -- these bytes are a list of so many tasks
   tasks-in : List ℕ → ℕ → Case
   -- these bytes are refused with this number
   refused-with : List ℕ → ℕ → Case
+  -- what opening these bytes with a memory and a table of weights answers, 0 or its refusal
+  opens-with : List ℕ → List ℕ → List ℕ → ℕ → Case
 
 unfoldable pub same : List ℕ → List ℕ → Bool
 same [] [] = true
@@ -67,10 +72,21 @@ unfoldable pub is-refused : ℕ → Decoded → Bool
 is-refused n (refused k) = eqb k n
 is-refused n (accepted l) = false
 
+unfoldable pub all-so : List Fact → Asked Run → Bool
+all-so facts (denies k) = false
+all-so facts (gives r) = every (is-so r) facts
+
+unfoldable pub asked-number : {A : Type 0} → Asked A → ℕ
+asked-number (denies k) = k
+asked-number (gives a) = 0
+
 unfoldable pub holds : Case → Bool
-holds (by-hand l m facts) = every (is-so (sequential (context l) m)) facts
+holds (by-hand l m facts) = every (is-so (sequential (context l fixed-weights) m)) facts
+holds (by-hand-under bytes m weights facts) = all-so facts (sequential-asked bytes m weights)
 holds (by-calls l m bs ks facts) =
-    let r = initial (context l) m in
-    same (answers (context l) r bs) ks && every (is-so (after-all (context l) r bs)) facts
+    let c = context l fixed-weights in
+    let r = initial c m in
+    same (answers c r bs) ks && every (is-so (after-all c r bs)) facts
 holds (tasks-in bytes n) = has-tasks n (decode bytes)
 holds (refused-with bytes k) = is-refused k (decode bytes)
+holds (opens-with bytes memory weights k) = eqb (asked-number (open-asked bytes memory weights)) k

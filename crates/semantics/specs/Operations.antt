@@ -1,13 +1,14 @@
 -- What else is asked: to open a run, to run a list by hand, one task's record, a location's queue, a search. Document 01, "Calls" and
 -- "Refused, by operation".
 use Prim.Native.Nat.{ℕ, _+_, _*_}
+use mathlib.Core.Path.{_≡_}
 use mathlib.Core.List.{List, map}
-use mathlib.Core.Bool.{cond}
+use mathlib.Core.Bool.{true, cond}
 use lib.ListN.{length}
 use lib.Dec.{leb, ltb, eqb}
 use Rattle.tasklist.specs.Decode.{Decoded, refused, accepted, decode}
-use Rattle.semantics.specs.Run.{Task, Run, Context, context, mode-of, task-of, initial}
-use Rattle.semantics.specs.Access.{Access, queue}
+use Rattle.semantics.specs.Run.{Task, Run, Context, context, weight-places, is-weight, mode-of, task-of, initial}
+use Rattle.semantics.specs.Access.{Access, every, queue}
 use Rattle.semantics.specs.Call.{among}
 use Rattle.semantics.specs.Search.{Found, search}
 use Rattle.semantics.specs.Sequential.{sequential}
@@ -17,18 +18,29 @@ pub data Asked (A : Type 0) : Type 0 where
   denies : ℕ → Asked A
   gives : A → Asked A
 
--- "Open and hand run: as check, then 8, library length not C."
-unfoldable pub with-list : {A : Type 0} → Decoded → List ℕ → (Context → A) → Asked A
-with-list (refused k) memory f = denies k
-with-list (accepted l) memory f = cond (eqb (length memory) (l .locations)) (gives (f (context l))) (denies 8)
+-- Request 105: "21 wrong length, 22 a number not in 1 to 1000"; the table "is checked before use"
+unfoldable pub with-weights : {A : Type 0} → List ℕ → A → Asked A
+with-weights weights a =
+    cond (eqb (length weights) weight-places) (cond (every is-weight weights) (gives a) (denies 22)) (denies 21)
+
+-- the tables that it lets through
+pub record WeightsAccepted (weights : List ℕ) : Type 0 where
+  pub size : length weights ≡ weight-places
+  pub each : every is-weight weights ≡ true
+
+-- "Open and hand run: as check, then 8, library length not C."; request 105: "After 8"
+unfoldable pub with-list : {A : Type 0} → Decoded → List ℕ → List ℕ → (Context → A) → Asked A
+with-list (refused k) memory weights f = denies k
+with-list (accepted l) memory weights f =
+    cond (eqb (length memory) (l .locations)) (with-weights weights (f (context l weights))) (denies 8)
 
 -- "A fresh run is what open gives when it accepts"
-unfoldable pub open-asked : List ℕ → List ℕ → Asked Run
-open-asked bytes memory = with-list (decode bytes) memory (λ c. initial c memory)
+unfoldable pub open-asked : List ℕ → List ℕ → List ℕ → Asked Run
+open-asked bytes memory weights = with-list (decode bytes) memory weights (λ c. initial c memory)
 
 -- "The hand run takes what open takes"
-unfoldable pub sequential-asked : List ℕ → List ℕ → Asked Run
-sequential-asked bytes memory = with-list (decode bytes) memory (λ c. sequential c memory)
+unfoldable pub sequential-asked : List ℕ → List ℕ → List ℕ → Asked Run
+sequential-asked bytes memory weights = with-list (decode bytes) memory weights (λ c. sequential c memory)
 
 -- "Record gives one job's record."; "Record: 9."
 unfoldable pub record-asked : Run → ℕ → Asked Task

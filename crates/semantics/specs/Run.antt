@@ -1,7 +1,9 @@
 -- What a run holds: document 01, "Jobs, order and queues".
 use Prim.Native.Nat.{ℕ, _+_, _-_}
 use mathlib.Core.List.{List, [], _∷_, _++_}
+use mathlib.Core.Bool.{Bool, _&&_}
 use lib.ListN.{getD, replicate}
+use lib.Dec.{leb}
 use Rattle.tasklist.specs.TaskList.{TaskList}
 
 -- "A record has: state (0 never made, 1 waiting, 2 started, 3 ended), sheet, place, four registers, a mode per entry
@@ -57,12 +59,22 @@ pub record Context : Type 0 where
   pub list : TaskList
   pub weights : List ℕ
 
--- "start 5, end 2, codes 0 to 8: 1, 1, 1, 1, 3, 4, 1, 8, 1"; request 104: 8 for each child of a fan
+-- "start 5, end 2, codes 0 to 8: 1, 1, 1, 1, 3, 4, 1, 8, 1"; request 104: 8 for each child of a fan; request 105: "Coordinator
+-- and preview pass today's numbers"
 unfoldable pub fixed-weights : List ℕ
 fixed-weights = 5 ∷ 2 ∷ 1 ∷ 1 ∷ 1 ∷ 1 ∷ 3 ∷ 4 ∷ 1 ∷ 8 ∷ 1 ∷ 8 ∷ []
 
-abbrev pub context : TaskList → Context
-context l = record { list = l; weights = fixed-weights }
+-- Request 105: "a lent table of 12 numbers of 16 bits: start, end, then codes 0 to 9, code 9's per child"; "Later codes lengthen
+-- it by one each."
+unfoldable pub weight-places : ℕ
+weight-places = 12
+
+-- 22: "a number not in 1 to 1000"
+unfoldable pub is-weight : ℕ → Bool
+is-weight w = leb 1 w && leb w 1000
+
+abbrev pub context : TaskList → List ℕ → Context
+context l weights = record { list = l; weights = weights }
 
 -- the weight at a place of the table
 unfoldable pub weight-of : Context → ℕ → ℕ

@@ -2,29 +2,28 @@
 use Prim.Native.Nat.{ℕ, zero, suc, _+_, _≤_, _<_}
 use mathlib.Core.Path.{_≡_, refl, sym, ap, subst, _∙_}
 use mathlib.Core.List.{List, [], _∷_, _++_}
-use mathlib.Core.Bool.{Bool, true, false, cond}
 use native.Mathlib.Omega.{arith}
 use native.Mathlib.Numerals.{add-one}
 use lib.ListN.{length, take, drop, getD}
 use lib.Seq.{drop-cons}
-use lib.Dec.{eqb}
-use borrow.Author.Tests.{eqb-true}
 use Rattle.tasklist.specs.TaskList.{TaskList}
-use Rattle.tasklist.specs.Decode.{Decoded, refused, accepted, decode}
+use Rattle.tasklist.specs.Decode.{accepted, decode}
 use Rattle.tasklist.specs.Tables.{list-of}
 use Rattle.semantics.specs.Run.{Context, context, initial}
 use Rattle.semantics.specs.Run as Semantics
 use Rattle.semantics.specs.Plan.{Action, start, step, «end»}
 use Rattle.semantics.specs.Call.{Call, after, after-all}
-use Rattle.semantics.specs.Operations.{denies, gives, with-list, open-asked}
+use Rattle.semantics.specs.Operations.{Asked, denies, gives, with-list, open-asked}
 use Rattle.semantics.proofs.Guarantee.{Guarantee}
 use Rattle.semantics.proofs.Bytes.{guarantee-of-bytes}
+use Rattle.semantics.proofs.Asked.{AskedCase, denied, given, asked-case}
 use Rattle.runtime.specs.declared.Run.{Run}
 use Rattle.runtime.specs.declared.Opened.{Opened}
 use Rattle.runtime.specs.declared.OpenAnswer.the-variants.{Accepted}
 use Rattle.runtime.specs.View.{model, context-of, SoundRun, blank-run}
 use Rattle.runtime.specs.Calls.{calls-of-kind, call-of, CallsMade}
 use Rattle.runtime.specs.Asked.{open-number, Unopened, OpenedAs}
+use Rattle.runtime.proofs.ViewLaws.{same-context}
 use Rattle.runtime.proofs.MadeLaws.{after-append, no-calls, calls-append}
 use Rattle.sequence.specs.Replays.{calls-of, ReplayedAs}
 
@@ -82,100 +81,100 @@ fresh-left r c memory q z =
     let none : length (take (r .left) (r .order)) ≡ 0 = ap (λ k. length (take k (r .order))) z in
     let bad : ⊥ = omega arith in absurd bad
 
--- open gave a fresh run of the list that the bytes hold
-pub record Fresh (bytes memory : List ℕ) (o : Opened) : Type 0 where
+-- open gave a fresh run of the list that the bytes hold, under the weights
+pub record Fresh (bytes memory weights : List ℕ) (o : Opened) : Type 0 where
   pub answer : open-number (o .answer) ≡ 0
   pub run : model (o .run) ≡ initial (context-of (o .run)) memory
   pub fits : length memory ≡ list-of (o .run .tables) .locations
   pub list : decode bytes ≡ accepted (list-of (o .run .tables))
+  pub table : o .run .weights ≡ weights
   pub sound : SoundRun (o .run)
 
--- open refused, or gave a fresh run; the same of whatever else is asked of the list
-pub data OpenCase (bytes memory : List ℕ) (o : Opened) : Type 0 where
-  unopened : (k : ℕ) → Unopened k o → ((f : Context → Semantics.Run) → with-list (decode bytes) memory f ≡ denies k) → OpenCase bytes memory o
-  fresh : Fresh bytes memory o → ((f : Context → Semantics.Run) → with-list (decode bytes) memory f ≡ gives (f (context-of (o .run)))) → OpenCase bytes memory o
+module _ (bytes memory weights : List ℕ) where
+  abbrev asked : (Context → Semantics.Run) → Asked Semantics.Run
+  asked f = with-list (decode bytes) memory weights f
 
-pub open-case : (bytes memory : List ℕ) (o : Opened) → OpenedAs bytes (open-asked bytes memory) o → OpenCase bytes memory o
-unfolding open-asked with-list
-open-case bytes memory o h = by-list (decode bytes) refl h
-  where
-    Was : Decoded → Type 0
-    Was d = OpenedAs bytes (with-list d memory (λ c. initial c memory)) o
+  -- open refused, or gave a fresh run; the same of whatever else is asked of the list
+  pub data OpenCase (o : Opened) : Type 0 where
+    unopened : (k : ℕ) → Unopened k o → ((f : Context → Semantics.Run) → asked f ≡ denies k) → OpenCase o
+    fresh : Fresh bytes memory weights o → ((f : Context → Semantics.Run) → asked f ≡ gives (f (context-of (o .run)))) → OpenCase o
 
-    by-fit : (l : TaskList) → decode bytes ≡ accepted l → (b : Bool) → eqb (length memory) (l .locations) ≡ b
-        → OpenedAs bytes (cond b (gives (initial (context l) memory)) (denies 8)) o → OpenCase bytes memory o
-    by-fit l q false e h =
-        unopened 8 h (λ f. ap (λ d. with-list d memory f) q ∙ ap (λ b. cond b (gives (f (context l))) (denies 8)) e)
-    by-fit l q true e h =
-        let same : list-of (o .run .tables) ≡ l = accepted-same (list-of (o .run .tables)) l (sym (h .list) ∙ q) in
-        fresh
-        (record {
-          answer = h .answer;
-          run = h .run ∙ ap (λ x. initial (context x) memory) (sym same);
-          fits = eqb-true (length memory) (l .locations) e ∙ ap (λ x. x .locations) (sym same);
-          list = h .list;
-          sound = h .sound;
-        })
-        (λ f.
-        ap (λ d. with-list d memory f) q ∙ ap (λ b. cond b (gives (f (context l))) (denies 8)) e
-        ∙ ap (λ x. gives (f (context x))) (sym same))
+  module _ (o : Opened) (h : OpenedAs bytes weights (open-asked bytes memory weights) o) where
+    pub open-case : OpenCase o
+    unfolding open-asked
+    open-case = sort (asked-case bytes memory weights)
+      where
+        sort : AskedCase bytes memory weights → OpenCase o
+        sort (denied k some e) =
+            unopened k (subst (λ a. OpenedAs bytes weights a o) (e Semantics.Run (λ c. initial c memory)) h) (e Semantics.Run)
+        sort (given l q fits ok e) =
+            let given-run = subst (λ a. OpenedAs bytes weights a o) (e Semantics.Run (λ c. initial c memory)) h in
+            let same : list-of (o .run .tables) ≡ l = accepted-same (list-of (o .run .tables)) l (sym (given-run .list) ∙ q) in
+            let under : context-of (o .run) ≡ context l weights = λ i. context (same i) (given-run .table i) in
+            fresh
+            (record {
+              answer = given-run .answer;
+              run = given-run .run ∙ ap (λ c. initial c memory) (sym under);
+              fits = fits ∙ ap (λ x. x .locations) (sym same);
+              list = given-run .list;
+              table = given-run .table;
+              sound = given-run .sound;
+            })
+            (λ f. e Semantics.Run f ∙ ap (λ c. gives (f c)) (sym under))
 
-    by-list : (d : Decoded) → decode bytes ≡ d → Was d → OpenCase bytes memory o
-    by-list (refused k) q h = unopened k h (λ f. ap (λ d. with-list d memory f) q)
-    by-list (accepted l) q h = by-fit l q (eqb (length memory) (l .locations)) refl h
+    -- the run of a refused open is handed on
+    pub still-unopened :
+        (f : Context → Semantics.Run) → o .run .left ≡ 0 → (k : ℕ) × (asked f ≡ denies k) × Unopened k o
+    still-unopened f z = sort open-case
+      where
+        sort : OpenCase o → (k : ℕ) × (asked f ≡ denies k) × Unopened k o
+        sort (unopened k u q) = (k, q f, u)
+        sort (fresh w q) = absurd (fresh-left (o .run) (context-of (o .run)) memory (w .run) z)
 
--- the run of a refused open is handed on
-pub still-unopened :
-    (bytes memory : List ℕ) (f : Context → Semantics.Run) (o : Opened) → OpenedAs bytes (open-asked bytes memory) o → o .run .left ≡ 0
-    → (k : ℕ) × (with-list (decode bytes) memory f ≡ denies k) × Unopened k o
-still-unopened bytes memory f o h z = sort (open-case bytes memory o h)
-  where
-    sort : OpenCase bytes memory o → (k : ℕ) × (with-list (decode bytes) memory f ≡ denies k) × Unopened k o
-    sort (unopened k u q) = (k, q f, u)
-    sort (fresh w q) = absurd (fresh-left (o .run) (context-of (o .run)) memory (w .run) z)
+    -- else open gave a fresh run
+    pub now-fresh :
+        (f : Context → Semantics.Run) → (o .run .left ≡ 0 → ⊥)
+        → Fresh bytes memory weights o × (asked f ≡ gives (f (context-of (o .run))))
+    now-fresh f z = sort open-case
+      where
+        sort : OpenCase o → Fresh bytes memory weights o × (asked f ≡ gives (f (context-of (o .run))))
+        sort (unopened k u q) = absurd (z (ap (λ r. r .left) (u .run) ∙ blank-left))
+        sort (fresh w q) = (w, q f)
 
--- else open gave a fresh run
-pub now-fresh :
-    (bytes memory : List ℕ) (f : Context → Semantics.Run) (o : Opened) → OpenedAs bytes (open-asked bytes memory) o → (o .run .left ≡ 0 → ⊥)
-    → Fresh bytes memory o × (with-list (decode bytes) memory f ≡ gives (f (context-of (o .run))))
-now-fresh bytes memory f o h z = sort (open-case bytes memory o h)
-  where
-    sort : OpenCase bytes memory o → Fresh bytes memory o × (with-list (decode bytes) memory f ≡ gives (f (context-of (o .run))))
-    sort (unopened k u q) = absurd (z (ap (λ r. r .left) (u .run) ∙ blank-left))
-    sort (fresh w q) = (w, q f)
+    -- replay's two answers
+    module _ (calls : List Call) where
+      pub replay-refused : o .run .left ≡ 0 → ReplayedAs bytes memory weights calls (open-asked bytes memory weights) o
+      unfolding open-asked
+      replay-refused z =
+          let u = still-unopened (λ c. initial c memory) z in
+          subst (λ a. ReplayedAs bytes memory weights calls a o) (sym (u .1)) (u .2)
 
--- replay's two answers
-module _ (bytes memory : List ℕ) (calls : List Call) (o : Opened) (h : OpenedAs bytes (open-asked bytes memory) o) where
-  pub replay-refused : o .run .left ≡ 0 → ReplayedAs bytes memory calls (open-asked bytes memory) o
-  unfolding open-asked
-  replay-refused z =
-      let u = still-unopened bytes memory (λ c. initial c memory) o h z in
-      subst (λ a. ReplayedAs bytes memory calls a o) (sym (u .1)) (u .2)
+      pub replay-made :
+          (o .run .left ≡ 0 → ⊥) → (r : Run) → CallsMade calls (o .run) r
+          → ReplayedAs bytes memory weights calls (open-asked bytes memory weights) (record { answer = Accepted; run = r })
+      unfolding open-asked open-number
+      replay-made z r made =
+          subst (λ a. ReplayedAs bytes memory weights calls a (record { answer = Accepted; run = r })) (sym (w .1))
+          (record {
+            answer = refl;
+            list = list-kept;
+            table = made .weights ∙ w .0 .table;
+            run = run-after;
+            guarantee =
+                subst (Guarantee (context-of r) memory calls) (sym run-after)
+                (guarantee-of-bytes bytes (list-of (r .tables)) list-kept (r .weights) (made .sound (w .0 .sound) .weights) memory
+                (w .0 .fits ∙ ap (λ t. list-of t .locations) (sym (made .list))) calls);
+            sound = made .sound (w .0 .sound);
+          })
+        where
+          w : Fresh bytes memory weights o × (asked (λ c. initial c memory) ≡ gives (initial (context-of (o .run)) memory))
+          w = now-fresh (λ c. initial c memory) z
 
-  pub replay-made :
-      (o .run .left ≡ 0 → ⊥) → (r : Run) → CallsMade calls (o .run) r
-      → ReplayedAs bytes memory calls (open-asked bytes memory) (record { answer = Accepted; run = r })
-  unfolding open-asked open-number
-  replay-made z r made =
-      subst (λ a. ReplayedAs bytes memory calls a (record { answer = Accepted; run = r })) (sym (w .1))
-      (record {
-        answer = refl;
-        list = list-kept;
-        run = run-after;
-        guarantee =
-            subst (Guarantee (context-of r) memory calls) (sym run-after)
-            (guarantee-of-bytes bytes (list-of (r .tables)) list-kept memory (w .0 .fits ∙ ap (λ t. list-of t .locations) (sym (made .list))) calls);
-        sound = made .sound (w .0 .sound);
-      })
-    where
-      w : Fresh bytes memory o × (with-list (decode bytes) memory (λ c. initial c memory) ≡ gives (initial (context-of (o .run)) memory))
-      w = now-fresh bytes memory (λ c. initial c memory) o h z
+          list-kept : decode bytes ≡ accepted (list-of (r .tables))
+          list-kept = w .0 .list ∙ ap (λ t. accepted (list-of t)) (sym (made .list))
 
-      list-kept : decode bytes ≡ accepted (list-of (r .tables))
-      list-kept = w .0 .list ∙ ap (λ t. accepted (list-of t)) (sym (made .list))
-
-      run-after : model r ≡ after-all (context-of r) (initial (context-of r) memory) calls
-      run-after =
-          made .run (w .0 .sound)
-          ∙ ap (λ m. after-all (context-of (o .run)) m calls) (w .0 .run)
-          ∙ ap (λ t. after-all (context (list-of t)) (initial (context (list-of t)) memory) calls) (sym (made .list))
+          run-after : model r ≡ after-all (context-of r) (initial (context-of r) memory) calls
+          run-after =
+              made .run (w .0 .sound)
+              ∙ ap (λ m. after-all (context-of (o .run)) m calls) (w .0 .run)
+              ∙ ap (λ c. after-all c (initial c memory) calls) (sym (same-context r (o .run) (made .list) (made .weights)))

@@ -13,7 +13,7 @@ use Rattle.tasklist.specs.TaskList.{body-of}
 use Rattle.tasklist.specs.Decode.{decode, accepted}
 use Rattle.tasklist.specs.Tables.{list-of}
 use Rattle.semantics.specs.declared.Record.{Record}
-use Rattle.semantics.specs.Run.{Context, context, task-of}
+use Rattle.semantics.specs.Run.{Context, task-of}
 use Rattle.semantics.specs.Run as Semantics
 use Rattle.semantics.specs.Plan.{at-end, start, step, «end»}
 use Rattle.semantics.specs.Call.{decide, after, after-all}
@@ -32,6 +32,7 @@ use Rattle.records.specs.Records.{child-record}
 use Rattle.tables.specs.Children.{numbers}
 use Rattle.sequence.specs.declared.Progress.{Progress}
 use Rattle.sequence.specs.Replays.{joined, RunWhole}
+use Rattle.runtime.proofs.ViewLaws.{same-context}
 use Rattle.runtime.proofs.CallLaws.{own-task}
 use Rattle.runtime.proofs.ChangeLaws.{change-made, ChildrenLeft, children-all, child-written, children-written}
 use Rattle.sequence.proofs.ReplayLaws.{still-unopened, Fresh, now-fresh}
@@ -45,14 +46,14 @@ abbrev pub with-records : Progress → List Record → Progress
 with-records p rs = record { records = rs; left = p .left; calls = p .calls; weight = p .weight }
 
 module _
-    (tables : Tables) (p : Progress) (memory modes order : List ℕ) (n : ℕ) (c : Change) (calls weight : ℕ)
+    (tables : Tables) (weights : List ℕ) (p : Progress) (memory modes order : List ℕ) (n : ℕ) (c : Change) (calls weight : ℕ)
     (more : calls ≡ (p .calls + c .calls) % 2 ^ 32) (heavier : weight ≡ (p .weight + c .weight) % 2 ^ 32)
   where
     abbrev before : Run
-    before = joined tables p memory modes order
+    before = joined tables weights p memory modes order
 
     put-joined :
-        (m ms o : List ℕ) → joined tables (onward p n c calls weight) m ms o ≡ put n c (joined tables p m ms o)
+        (m ms o : List ℕ) → joined tables weights (onward p n c calls weight) m ms o ≡ put n c (joined tables weights p m ms o)
     put-joined m ms o = λ i. record {
       tables = tables;
       memory = m;
@@ -62,36 +63,37 @@ module _
       left = c .left;
       calls = more i;
       weight = heavier i;
+      weights = weights;
     }
 
     pub start-joined :
-        StartedBy order modes (p .left) (record-of before n) n c
-        → CallsMade (call-of start n ∷ []) before (joined tables (onward p n c calls weight) memory modes order)
+        StartedBy order modes (p .left) (record-of before n) n weights c
+        → CallsMade (call-of start n ∷ []) before (joined tables weights (onward p n c calls weight) memory modes order)
     start-joined h =
         subst (CallsMade (call-of start n ∷ []) before) (sym (put-joined memory modes order))
-        (change-made start before n (put n c before) (c .answer) (h before refl))
+        (change-made start before n (put n c before) (c .answer) (h before refl refl))
 
     pub end-joined :
         (o : List ℕ) (size : ℕ) → BodySize size (record-of before n) before
-        → EndedBy order o (p .left) (record-of before n) size n c
-        → CallsMade (call-of «end» n ∷ []) before (joined tables (onward p n c calls weight) memory modes o)
+        → EndedBy order o (p .left) (record-of before n) size n weights c
+        → CallsMade (call-of «end» n ∷ []) before (joined tables weights (onward p n c calls weight) memory modes o)
     end-joined o size fits h =
         subst (CallsMade (call-of «end» n ∷ []) before) (sym (put-joined memory modes o))
-        (change-made «end» before n (put n c (joined tables p memory modes o)) (c .answer) (h before refl fits))
+        (change-made «end» before n (put n c (joined tables weights p memory modes o)) (c .answer) (h before refl refl fits))
 
-    module _ (m ms o : List ℕ) (h : SteppedBy tables memory modes order m ms o (p .left) (record-of before n) n c) where
+    module _ (m ms o : List ℕ) (h : SteppedBy tables memory modes order m ms o (p .left) (record-of before n) n weights c) where
       -- with the records of the tasks made
       pub step-joined :
           (q : Progress)
           → q ≡ with-records (onward p n c calls weight) (with-children (c .child) (c .apart) (c .made) (c .children) (set (p .records) n (c .own)))
-          → CallsMade (call-of step n ∷ []) before (joined tables q m ms o)
+          → CallsMade (call-of step n ∷ []) before (joined tables weights q m ms o)
       step-joined q written =
-          subst (λ x. CallsMade (call-of step n ∷ []) before (joined tables x m ms o)) (sym written)
+          subst (λ x. CallsMade (call-of step n ∷ []) before (joined tables weights x m ms o)) (sym written)
           (subst (λ x. CallsMade (call-of step n ∷ []) before (with-made c x)) (sym (put-joined m ms o))
-          (change-made step before n (with-made c (put n c (joined tables p m ms o))) (c .answer) (h .1 before refl .0)))
+          (change-made step before n (with-made c (put n c (joined tables weights p m ms o))) (c .answer) (h .1 before refl refl .0)))
 
       pub makes-joined : SoundRun before → Makes before n c
-      makes-joined = h .1 before refl .1
+      makes-joined = h .1 before refl refl .1
 
 -- The records of the first i tasks made are still to be written; the rest is as it was.
 pub record Writing (child apart : ℕ) (made : Record) (children : ℕ) (from : Progress) (i : ℕ) (p : Progress) : Type 0 where
@@ -128,6 +130,7 @@ module _ (run : Run) (n : ℕ) (below : n < 128) (size : ℕ)
 -- The steps that are left: t more from r come to what `limit` come to from the first run.
 pub record StepsLeft (bodies n limit : ℕ) (from : Run) (t : ℕ) (r : Run) : Type 0 where
   pub list : r .tables ≡ from .tables
+  pub weights : r .weights ≡ from .weights
   pub run :
       SoundRun from
       → steps-through (context-of from) (run-whole (context-of from) (bodies - 1)) n limit (model from)
@@ -135,7 +138,7 @@ pub record StepsLeft (bodies n limit : ℕ) (from : Run) (t : ℕ) (r : Run) : T
   pub sound : SoundRun from → SoundRun r
 
 pub steps-all : (bodies n limit : ℕ) (from : Run) → StepsLeft bodies n limit from limit from
-steps-all bodies n limit from = record { list = refl; run = λ s. refl; sound = λ s. s }
+steps-all bodies n limit from = record { list = refl; weights = refl; run = λ s. refl; sound = λ s. s }
 
 ends-there :
     (c : Context) (whole : ℕ → Semantics.Run → Semantics.Run) (n t : ℕ) (m : Semantics.Run) → at-end c (task-of m n) ≡ true
@@ -161,11 +164,12 @@ unfolding steps-through
 turn-ended bodies n limit from t r before b ends q =
     record {
       list = before .list;
+      weights = before .weights;
       run =
           λ s.
           before .run s
           ∙ ends-there (context-of from) (run-whole (context-of from) (bodies - 1)) n t (model r)
-          (ap (λ y. at-end (context (list-of y)) (task-of (model r) n)) (sym (before .list)) ∙ sym (ends (before .sound s)) ∙ q);
+          (ap (λ c. at-end c (task-of (model r) n)) (sym (same-context r from (before .list) (before .weights))) ∙ sym (ends (before .sound s)) ∙ q);
       sound = before .sound;
     }
 
@@ -173,6 +177,7 @@ turn-ended bodies n limit from t r before b ends q =
 pub record EachLeft (bodies child apart children : ℕ) (from : Run) (j : ℕ) (r : Run) : Type 0 where
   pub within : j ≤ children
   pub list : r .tables ≡ from .tables
+  pub weights : r .weights ≡ from .weights
   pub run :
       SoundRun from
       → run-each (run-whole (context-of from) (bodies - 1)) (numbers child apart children) (model from)
@@ -186,6 +191,7 @@ each-all bodies child apart children from =
     record {
       within = omega arith;
       list = refl;
+      weights = refl;
       run =
           λ s.
           ap (λ k. run-each (run-whole (context-of from) (bodies - 1)) (numbers k apart children) (model from)) first
@@ -225,6 +231,7 @@ module _ (bodies child apart children : ℕ) (from : Run) (j : ℕ) (r : Run) (m
       record {
         within = omega (arith, more);
         list = w .list ∙ before .list;
+        weights = w .weights ∙ before .weights;
         run =
             λ s.
             before .run s
@@ -232,7 +239,7 @@ module _ (bodies child apart children : ℕ) (from : Run) (j : ℕ) (r : Run) (m
             ∙ ap (λ k. run-each every (numbers k apart (children - j - 1)) (every (child + j * apart) (model r))) next-number
             ∙ ap (λ k. run-each every (numbers (child + (j + 1) * apart) apart k) (every (child + j * apart) (model r))) fewer
             ∙ ap (run-each every (numbers (child + (j + 1) * apart) apart (children - (j + 1))))
-            (ap (λ y. run-whole (context (list-of y)) (bodies - 1) (child + j * apart) (model r)) (sym (before .list))
+            (ap (λ c. run-whole c (bodies - 1) (child + j * apart) (model r)) (sym (same-context r from (before .list) (before .weights)))
             ∙ sym (w .run (before .sound s)));
         sound = λ s. w .sound (before .sound s);
       }
@@ -255,10 +262,10 @@ module _
     turn d s q =
         before .run s
         ∙ one-more (context-of from) whole n t (model r) more
-        (ap (λ y. at-end (context (list-of y)) (task-of (model r) n)) (sym (before .list)) ∙ sym (ends (before .sound s)) ∙ going)
+        (ap (λ c. at-end c (task-of (model r) n)) (sym (same-context r from (before .list) (before .weights))) ∙ sym (ends (before .sound s)) ∙ going)
         ∙ ap (steps-through (context-of from) whole n (t - 1))
-        (ap (λ y. run-each whole (made-by (decide (context (list-of y)) (model r) (step-of n))) (after (context (list-of y)) (model r) (step-of n)))
-        (sym (before .list))
+        (ap (λ c. run-each whole (made-by (decide c (model r) (step-of n))) (after c (model r) (step-of n)))
+        (sym (same-context r from (before .list) (before .weights)))
         ∙ q)
 
     pub turn-taken :
@@ -267,13 +274,15 @@ module _
     turn-taken j d h each =
         record {
           list = each .list ∙ stepped .list ∙ before .list;
+          weights = each .weights ∙ stepped .weights ∙ before .weights;
           run =
               λ s.
               let s₁ = stepped .sound (before .sound s) in
               turn (model d) s
               (ap (λ ks. run-each whole ks (after (context-of r) (model r) (step-of n))) (made (before .sound s))
               ∙ ap (run-each whole (numbers child apart children)) (sym (stepped .run (before .sound s)))
-              ∙ ap (λ y. run-each (run-whole (context (list-of y)) (bodies - 1)) (numbers child apart children) (model next)) (sym (stepped .list ∙ before .list))
+              ∙ ap (λ c. run-each (run-whole c (bodies - 1)) (numbers child apart children) (model next))
+              (sym (same-context next from (stepped .list ∙ before .list) (stepped .weights ∙ before .weights)))
               ∙ each .run s₁
               ∙ none-each (run-whole (context-of next) (bodies - 1)) (model d) (child + j * apart) apart (children - j) (omega (arith, h)));
           sound = λ s. each .sound (stepped .sound (before .sound s));
@@ -285,6 +294,7 @@ unfolding run-whole
 whole-none bodies n run q =
     record {
       list = refl;
+      weights = refl;
       run = λ s. sym (ap (λ k. run-whole (context-of run) k n (model run)) q);
       sound = λ s. s;
     }
@@ -311,13 +321,15 @@ module _
     whole-run stops =
         record {
           list = done .list ∙ steps .list ∙ begun .list;
+          weights = done .weights ∙ steps .weights ∙ begun .weights;
           run =
               λ s.
               let s₁ = begun .sound s in
               done .run (steps .sound s₁)
-              ∙ ap (λ y. after (context (list-of y)) (model r) (end-of n)) (steps .list ∙ begun .list)
+              ∙ ap (λ c. after c (model r) (end-of n)) (same-context r run (steps .list ∙ begun .list) (steps .weights ∙ begun .weights))
               ∙ ap (λ m. after (context-of run) m (end-of n)) (sym (steps .run s₁ ∙ stops s))
-              ∙ ap (λ y. after (context-of run) (steps-through (context (list-of y)) (run-whole (context (list-of y)) (bodies - 1)) n limit (model from)) (end-of n)) (begun .list)
+              ∙ ap (λ c. after (context-of run) (steps-through c (run-whole c (bodies - 1)) n limit (model from)) (end-of n))
+              (same-context from run (begun .list) (begun .weights))
               ∙ ap (λ m. after (context-of run) (steps-through (context-of run) (run-whole (context-of run) (bodies - 1)) n limit m) (end-of n)) (begun .run s)
               ∙ ap (λ k. after (context-of run) (steps-through (context-of run) (run-whole (context-of run) (bodies - 1)) n k (after (context-of run) (model run) (start-of n))) (end-of n)) (room s)
               ∙ sym (whole-more (context-of run) bodies n (model run) some);
@@ -332,28 +344,30 @@ module _
         no-more (suc k) g = let z : ⊥ = omega arith in absurd z
 
 -- the sequential run's two answers
-module _ (bytes memory : List ℕ) (o : Opened) (h : OpenedAs bytes (open-asked bytes memory) o) where
-  pub sequential-refused : o .run .left ≡ 0 → OpenedAs bytes (sequential-asked bytes memory) o
+module _ (bytes memory weights : List ℕ) (o : Opened) (h : OpenedAs bytes weights (open-asked bytes memory weights) o) where
+  pub sequential-refused : o .run .left ≡ 0 → OpenedAs bytes weights (sequential-asked bytes memory weights) o
   unfolding sequential-asked
   sequential-refused z =
-      let u = still-unopened bytes memory (λ c. sequential c memory) o h z in
-      subst (λ a. OpenedAs bytes a o) (sym (u .1)) (u .2)
+      let u = still-unopened bytes memory weights o h (λ c. sequential c memory) z in
+      subst (λ a. OpenedAs bytes weights a o) (sym (u .1)) (u .2)
 
   pub sequential-made :
       (o .run .left ≡ 0 → ⊥) → (bodies : ℕ) → bodies ≡ length (list-of (o .run .tables) .bodies) → (r : Run)
-      → RunWhole bodies 0 (o .run) r → OpenedAs bytes (sequential-asked bytes memory) (record { answer = Opening.Accepted; run = r })
+      → RunWhole bodies 0 (o .run) r
+      → OpenedAs bytes weights (sequential-asked bytes memory weights) (record { answer = Opening.Accepted; run = r })
   unfolding sequential-asked open-number
   sequential-made z bodies q r whole =
-      subst (λ a. OpenedAs bytes a (record { answer = Opening.Accepted; run = r })) (sym (w .1))
+      subst (λ a. OpenedAs bytes weights a (record { answer = Opening.Accepted; run = r })) (sym (w .1))
       (record {
         answer = refl;
         run = run-after;
         list = w .0 .list ∙ ap (λ t. accepted (list-of t)) (sym (whole .list));
+        table = whole .weights ∙ w .0 .table;
         sound = whole .sound (w .0 .sound);
       })
     where
-      w : Fresh bytes memory o × (with-list (decode bytes) memory (λ c. sequential c memory) ≡ gives (sequential (context-of (o .run)) memory))
-      w = now-fresh bytes memory (λ c. sequential c memory) o h z
+      w : Fresh bytes memory weights o × (with-list (decode bytes) memory weights (λ c. sequential c memory) ≡ gives (sequential (context-of (o .run)) memory))
+      w = now-fresh bytes memory weights o h (λ c. sequential c memory) z
 
       run-after : model r ≡ sequential (context-of (o .run)) memory
       run-after =

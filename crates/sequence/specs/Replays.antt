@@ -24,23 +24,24 @@ calls-of [] tasks = []
 calls-of (k ∷ kinds) [] = []
 calls-of (k ∷ kinds) (n ∷ tasks) = calls-of-kind k n ++ calls-of kinds tasks
 
--- Demand 3, of the run that the code hands back: the list is the accepted one, the run is the one after these calls from
--- the fresh run, and the six parts hold of it.
-pub record Replayed (bytes memory : List ℕ) (calls : List Call) (r : Opened) : Type 0 where
+-- Demand 3, of the run that the code hands back: the list is the accepted one, the weights are those lent, the run is the one
+-- after these calls from the fresh run, and the six parts hold of it.
+pub record Replayed (bytes memory weights : List ℕ) (calls : List Call) (r : Opened) : Type 0 where
   pub answer : open-number (r .answer) ≡ 0
   pub list : decode bytes ≡ accepted (list-of (r .run .tables))
+  pub table : r .run .weights ≡ weights
   pub run : model (r .run) ≡ after-all (context-of (r .run)) (initial (context-of (r .run)) memory) calls
   pub guarantee : Guarantee (context-of (r .run)) memory calls (model (r .run))
   pub sound : SoundRun (r .run)
 
 -- "where open refuses, that refusal"; else demand 3
-abbrev pub ReplayedAs : List ℕ → List ℕ → List Call → Asked Semantics.Run → Opened → Type 0
-ReplayedAs bytes memory calls (denies k) r = Unopened k r
-ReplayedAs bytes memory calls (gives fresh) r = Replayed bytes memory calls r
+abbrev pub ReplayedAs : List ℕ → List ℕ → List ℕ → List Call → Asked Semantics.Run → Opened → Type 0
+ReplayedAs bytes memory weights calls (denies k) r = Unopened k r
+ReplayedAs bytes memory weights calls (gives fresh) r = Replayed bytes memory weights calls r
 
--- a run put together: its list, the part by value, its memory, its modes and its order
-abbrev pub joined : Tables → Progress → List ℕ → List ℕ → List ℕ → Run
-joined tables p memory modes order =
+-- a run put together: its list, its weights, the part by value, its memory, its modes and its order
+abbrev pub joined : Tables → List ℕ → Progress → List ℕ → List ℕ → List ℕ → Run
+joined tables weights p memory modes order =
     record {
       tables = tables;
       memory = memory;
@@ -50,10 +51,12 @@ joined tables p memory modes order =
       left = p .left;
       calls = p .calls;
       weight = p .weight;
+      weights = weights;
     }
 
 -- "A job is run whole": task n of the run `from`, with so many bodies left
 pub record RunWhole (bodies n : ℕ) (from r : Run) : Type 0 where
   pub list : r .tables ≡ from .tables
+  pub weights : r .weights ≡ from .weights
   pub run : SoundRun from → model r ≡ run-whole (context-of from) bodies n (model from)
   pub sound : SoundRun from → SoundRun r

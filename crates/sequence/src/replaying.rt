@@ -42,10 +42,10 @@ fn all_called(run: Run, kinds: &[u8], tasks: &[u32]) -> Run
 }
 
 // Opens a run and makes these calls on it, refused ones included.
-pub fn replay(list: &[u8], memory: &[u32], kinds: &[u8], tasks: &[u32]) -> Opened
-    ensures { λ r. ⌜ ReplayedAs (now (list .entry)) (now (memory .entry)) (calls-of (now (kinds .entry)) (now (tasks .entry))) (open-asked (now (list .entry)) (now (memory .entry))) r ⌝ }
+pub fn replay(list: &[u8], memory: &[u32], weights: &[u16], kinds: &[u8], tasks: &[u32]) -> Opened
+    ensures { λ r. ⌜ ReplayedAs (now (list .entry)) (now (memory .entry)) (now (weights .entry)) (calls-of (now (kinds .entry)) (now (tasks .entry))) (open-asked (now (list .entry)) (now (memory .entry)) (now (weights .entry))) r ⌝ }
 {
-    let opened = fresh::open(list, memory);
+    let opened = fresh::open(list, memory, weights);
     let fresh = opened.run;
     // no task is left in the blank run of a refused open
     if fresh.left == 0 {

@@ -19,9 +19,10 @@ fn run_whole(
     order: &mut [u8; 128],
     task: usize,
     bodies: usize,
+    weights: [u16; 12],
 ) -> Progress
     requires { ⌜ task < 128 ⌝ }
-    ensures { λ r. ⌜ RunWhole bodies task (joined tables progress (now (memory .entry)) (now (modes .entry)) (now (order .entry))) (joined tables r (now (memory .exit)) (now (modes .exit)) (now (order .exit))) ⌝ }
+    ensures { λ r. ⌜ RunWhole bodies task (joined tables weights progress (now (memory .entry)) (now (modes .entry)) (now (order .entry))) (joined tables weights r (now (memory .exit)) (now (modes .exit)) (now (order .exit))) ⌝ }
 {
     let mut p = progress;
     if bodies == 0 {
@@ -29,7 +30,7 @@ fn run_whole(
     }
     let own = p.records[task];
     let size = listing::row_size(tables.bodies, &tables.sizes, 32, own.body as usize);
-    let change = runtime::start_change(order, modes, p.left, own, task as u32);
+    let change = runtime::start_change(order, modes, p.left, own, task as u32, weights);
     let next = change.own;
     p.records[task] = next;
     p.left = change.left;
@@ -44,7 +45,16 @@ fn run_whole(
             steps = 0;
             continue;
         }
-        let change = runtime::step_change(tables, memory, modes, order, p.left, own, task as u32);
+        let change = runtime::step_change(
+            tables,
+            memory,
+            modes,
+            order,
+            p.left,
+            own,
+            task as u32,
+            weights,
+        );
         let next = change.own;
         p.records[task] = next;
         p.left = change.left;
@@ -73,13 +83,14 @@ fn run_whole(
                 order,
                 child + j * apart,
                 bodies - 1,
+                weights,
             );
             j += 1;
         }
     }
     let own = p.records[task];
     let size = listing::row_size(tables.bodies, &tables.sizes, 32, own.body as usize);
-    let change = runtime::end_change(order, p.left, own, size, task as u32);
+    let change = runtime::end_change(order, p.left, own, size, task as u32, weights);
     let next = change.own;
     p.records[task] = next;
     p.left = change.left;
@@ -89,16 +100,17 @@ fn run_whole(
 }
 
 // Runs a job list by hand: as open, then task 0 is run whole.
-pub fn sequential(list: &[u8], memory: &[u32]) -> Opened
-    ensures { λ r. ⌜ OpenedAs (now (list .entry)) (sequential-asked (now (list .entry)) (now (memory .entry))) r ⌝ }
+pub fn sequential(list: &[u8], memory: &[u32], weights: &[u16]) -> Opened
+    ensures { λ r. ⌜ OpenedAs (now (list .entry)) (now (weights .entry)) (sequential-asked (now (list .entry)) (now (memory .entry)) (now (weights .entry))) r ⌝ }
 {
-    let opened = fresh::open(list, memory);
+    let opened = fresh::open(list, memory, weights);
     let fresh = opened.run;
     // no task is left in the blank run of a refused open
     if fresh.left == 0 {
         return opened;
     }
     let tables = fresh.tables;
+    let table = fresh.weights;
     let bodies = listing::body_count(tables);
     let records = fresh.records;
     let progress = Progress {
@@ -118,6 +130,7 @@ pub fn sequential(list: &[u8], memory: &[u32]) -> Opened
         &mut order,
         0,
         bodies,
+        table,
     );
     let records = done.records;
     let run = Run {
@@ -129,6 +142,7 @@ pub fn sequential(list: &[u8], memory: &[u32]) -> Opened
         left: done.left,
         calls: done.calls,
         weight: done.weight,
+        weights: table,
     };
     Opened {
         answer: OpenAnswer::Accepted,

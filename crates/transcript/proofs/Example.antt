@@ -8,13 +8,13 @@ use Rattle.tasklist.specs.Encode.{joined, instruction-fields}
 use Rattle.tasklist.specs.Decode.{accepted}
 use Rattle.tasklist.proofs.Cases.{P, P-bytes, P-decodes}
 use Rattle.library.specs.Library.{number-of, numbers-of, memory-of}
-use Rattle.semantics.specs.Run.{no-modes, never, fixed-weights, weight-of, root-modes, root, initial, context}
+use Rattle.semantics.specs.Run.{no-modes, never, fixed-weights, weight-places, is-weight, weight-of, root-modes, root, initial, context}
 use Rattle.semantics.specs.Access.{every, any, only, ahead, queue, behind-writer, compatible, allowed, access-fault}
 use Rattle.semantics.specs.Effect.{numbered-from}
 use Rattle.semantics.specs.Footprint.{targets, all-targets, merged, unless-denied, grant, child-modes, with-first, children}
 use Rattle.semantics.specs.Plan.{unless-fault, plan-load, plan-store, plan-wait, passed-over, child-number, plan-make, plan-instruction, units, step-weight, at-end, needs-from, plan-start, plan-step, plan-end, plan}
 use Rattle.semantics.specs.Call.{hold, admit, settle, among, decide, edited, written, splice, stays, places, changes, apply, taken, call, after, after-all}
-use Rattle.semantics.specs.Operations.{with-list}
+use Rattle.semantics.specs.Operations.{with-weights, with-list}
 use Rattle.semantics.specs.Answers.{outcome-number}
 use Rattle.runtime.specs.Calls.{calls-of-kind}
 use Rattle.lent.specs.Lines.{calls-in, line, lines}
@@ -37,12 +37,12 @@ P-memory : memory-of P-library ≡ 5 ∷ 7 ∷ []
 unfolding memory-of numbers-of number-of
 P-memory = refl
 
-P-run : lines-from (context P) (initial (context P) (5 ∷ 7 ∷ [])) P-input ≡ P-lines
+P-run : lines-from (context P fixed-weights) (initial (context P fixed-weights) (5 ∷ 7 ∷ [])) P-input ≡ P-lines
 unfolding body-of footprint-of instruction-of total adds count-body count-from counts task-count no-modes never fixed-weights weight-of root-modes root initial every any only ahead queue behind-writer compatible allowed access-fault unless-fault plan-load plan-store plan-wait passed-over targets all-targets merged unless-denied grant child-modes with-first children numbered-from child-number plan-make plan-instruction units step-weight at-end needs-from plan-start plan-step plan-end plan hold admit settle among decide edited written splice stays places changes apply taken call after after-all outcome-number calls-of-kind calls-in line lines joined digits-within digits followed totals closing lines-from instruction-fields
 P-run = refl
 
 pub P-prints : transcript P-bytes P-library P-input ≡ P-lines
-unfolding transcript with-list printed
+unfolding transcript with-list with-weights fixed-weights weight-places is-weight every printed
 P-prints =
-    ap (λ d. printed (with-list d (memory-of P-library) (λ c. lines-from c (initial c (memory-of P-library)) P-input))) P-decodes
-    ∙ ap (λ m. printed (with-list (accepted P) m (λ c. lines-from c (initial c m) P-input))) P-memory ∙ P-run
+    ap (λ d. printed (with-list d (memory-of P-library) fixed-weights (λ c. lines-from c (initial c (memory-of P-library)) P-input))) P-decodes
+    ∙ ap (λ m. printed (with-list (accepted P) m fixed-weights (λ c. lines-from c (initial c m) P-input))) P-memory ∙ P-run

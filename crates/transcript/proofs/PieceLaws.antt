@@ -30,7 +30,7 @@ use Rattle.transcript.proofs.DigitLaws.{digits-two, digits-three, follo
 use Rattle.transcript.proofs.ClosingLaws.{wrote-none, wrote-all}
 
 -- a line of a call has at most 3 bytes, one of any byte at most 4
-pub line-most : (n : ℕ) → n ≤ 18 → length (line n) ≤ 3
+pub line-most : (n : ℕ) → n ≤ 22 → length (line n) ≤ 3
 line-most n h = omega (arith, followed-length n 10, digits-two n (omega arith))
 
 pub byte-line-most : (n : ℕ) → n < 256 → length (line n) ≤ 4

@@ -3,25 +3,25 @@
 use Prim.Native.Nat.{ℕ, zero, suc, _+_, _*_, _/_, _≤_}
 use mathlib.Core.Path.{_≡_, refl, sym, ap, subst, _∙_}
 use mathlib.Core.List.{List, [], _∷_, _++_, append-nil, append-assoc}
-use mathlib.Core.Bool.{Bool, true, false, cond}
 use native.Mathlib.Omega.{arith}
 use lib.ListN.{length, take, drop}
 use lib.Seq.{take-at, take-length}
-use lib.Dec.{eqb}
 use Rattle.tasklist.specs.TaskList.{TaskList}
-use Rattle.tasklist.specs.Decode.{Decoded, refused, accepted, decode}
+use Rattle.tasklist.specs.Decode.{accepted, decode}
 use Rattle.tasklist.specs.Encode.{joined}
 use Rattle.tasklist.specs.Tables.{list-of}
 use Rattle.library.specs.Library.{memory-of}
-use Rattle.semantics.specs.Run.{Context, context, initial}
+use Rattle.semantics.specs.Run.{Context, context, fixed-weights, initial}
 use Rattle.semantics.specs.Run as Semantics
 use Rattle.semantics.specs.Call.{after-all}
-use Rattle.semantics.specs.Operations.{denies, gives, with-list, open-asked}
+use Rattle.semantics.specs.Operations.{Asked, with-list, open-asked}
+use Rattle.semantics.proofs.Asked.{AskedCase, denied, given, asked-case}
 use Rattle.runtime.specs.declared.Run.{Run}
 use Rattle.runtime.specs.declared.Opened.{Opened}
 use Rattle.runtime.specs.View.{model, context-of, SoundRun}
 use Rattle.runtime.specs.Asked.{open-number, Unopened, Running, OpenedAs}
 use Rattle.runtime.specs.Calls.{calls-of-kind}
+use Rattle.runtime.proofs.ViewLaws.{same-context}
 use Rattle.runtime.proofs.MadeLaws.{after-append}
 use Rattle.lent.specs.Lines.{calls-in, lines}
 use Rattle.lent.specs.Lines as Called
@@ -32,7 +32,6 @@ use Rattle.transcript.specs.Transcript.{line, closing, lines-from, refus
 use Rattle.transcript.specs.Promises.{given, Wrote, open-bytes, whole-of, half-of, pending-bytes, half-bytes, FedAs}
 use Rattle.transcript.proofs.ClosingLaws.{with-room}
 use Rattle.transcript.proofs.PieceLaws.{exceeds-none, used-all}
-use Rattle.tasklist.proofs.RefusalLaws.{refused-above}
 
 -- these bytes were written at the front of a lent slice that has room for them, and then printed
 pub record Printed (room : ℕ) (bytes shown : List ℕ) : Type 0 where
@@ -136,7 +135,8 @@ session-lines (piece ∷ pieces) run p shown s (f, now-shown, later, t, rest, e)
     ∙ ap (whole-lines c (model run)) whole in
     let left : later ≡ lines-from c (whole-run c (model run) bytes) (half-of bytes ++ all-of pieces) =
     session-lines pieces (f .run) (f .pending) later (fed .made .sound s) rest
-    ∙ ap (λ x. lines-from (context (list-of x)) (model (f .run)) (pending-bytes (f .pending) ++ all-of pieces)) (fed .made .list)
+    ∙ ap (λ x. lines-from x (model (f .run)) (pending-bytes (f .pending) ++ all-of pieces))
+    (same-context (f .run) run (fed .made .list) (fed .made .weights))
     ∙ ap (λ m. lines-from c m (pending-bytes (f .pending) ++ all-of pieces)) (fed .made .run s ∙ ap (whole-run c (model run)) whole)
     ∙ ap (λ q. lines-from c (whole-run c (model run) bytes) (q ++ all-of pieces)) (fed .pending ∙ ap half-of whole) in
     e ∙ ap (λ x. x ++ later) lines ∙ ap (λ x. whole-lines c (model run) bytes ++ x) left
@@ -148,11 +148,11 @@ accepted-same a b q = cc
 
 -- The law
 pub prints-the-transcript :
-    (jobs library : List ℕ) (o : Opened) → OpenedAs jobs (open-asked jobs (memory-of library)) o
+    (jobs library : List ℕ) (o : Opened) → OpenedAs jobs fixed-weights (open-asked jobs (memory-of library) fixed-weights) o
     → (pieces : List (List ℕ)) (shown : List ℕ) → Coordinated (open-number (o .answer)) o pieces shown
     → shown ≡ transcript jobs library (all-of pieces)
-unfolding open-asked with-list transcript printed
-prints-the-transcript jobs library o h pieces shown t = by-list (decode jobs) refl h
+unfolding open-asked transcript printed
+prints-the-transcript jobs library o h pieces shown t = by-case (asked-case jobs memory fixed-weights)
   where
     memory : List ℕ
     memory = memory-of library
@@ -168,21 +168,22 @@ prints-the-transcript jobs library o h pieces shown t = by-list (decode jobs) re
     refusal (suc k) some u =
         printed-is 11 (open-bytes (suc k)) shown (subst (λ n. Coordinated n o pieces shown) (u .answer) t) ∙ (unfold open-bytes in refl)
 
-    running : (l : TaskList) → decode jobs ≡ accepted l → Running jobs (initial (context l) memory) o → shown ≡ lines (context l)
+    running :
+        (l : TaskList) → decode jobs ≡ accepted l → Running jobs fixed-weights (initial (context l fixed-weights) memory) o
+        → shown ≡ lines (context l fixed-weights)
     running l q r =
         let same : list-of (o .run .tables) ≡ l = accepted-same (list-of (o .run .tables)) l (sym (r .list) ∙ q) in
+        let under : context-of (o .run) ≡ context l fixed-weights = λ i. context (same i) (r .table i) in
         session-lines pieces (o .run) Nothing shown (r .sound) (subst (λ n. Coordinated n o pieces shown) (r .answer) t)
         ∙ ap (λ m. lines-from (context-of (o .run)) m (pending-bytes Nothing ++ input)) (r .run)
-        ∙ ap (λ x. lines-from (context x) (initial (context l) memory) (pending-bytes Nothing ++ input)) same
+        ∙ ap (λ c. lines-from c (initial (context l fixed-weights) memory) (pending-bytes Nothing ++ input)) under
         ∙ (unfold pending-bytes in refl)
 
-    by-fit : (l : TaskList) → decode jobs ≡ accepted l → (b : Bool)
-        → OpenedAs jobs (cond b (gives (initial (context l) memory)) (denies 8)) o
-        → shown ≡ printed (cond b (gives (lines (context l))) (denies 8))
-    by-fit l q false h = refusal 8 (omega arith) h
-    by-fit l q true h = running l q h
+    opened : Asked Semantics.Run → Type 0
+    opened a = OpenedAs jobs fixed-weights a o
 
-    by-list : (d : Decoded) → decode jobs ≡ d → OpenedAs jobs (with-list d memory (λ c. initial c memory)) o
-        → shown ≡ printed (with-list (decode jobs) memory lines)
-    by-list (refused k) q h = rw q (refusal k (refused-above jobs k q) h)
-    by-list (accepted l) q h = rw q (by-fit l q (eqb (length memory) (l .locations)) h)
+    by-case : AskedCase jobs memory fixed-weights → shown ≡ printed (with-list (decode jobs) memory fixed-weights lines)
+    by-case (denied k some e) =
+        refusal k some (subst opened (e Semantics.Run (λ c. initial c memory)) h) ∙ ap printed (sym (e (List ℕ) lines))
+    by-case (given l q fits ok e) =
+        running l q (subst opened (e Semantics.Run (λ c. initial c memory)) h) ∙ ap printed (sym (e (List ℕ) lines))

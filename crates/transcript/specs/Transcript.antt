@@ -8,7 +8,7 @@ use lib.Dec.{ltb}
 use Rattle.tasklist.specs.Decode.{decode}
 use Rattle.tasklist.specs.Encode.{joined}
 use Rattle.library.specs.Library.{memory-of}
-use Rattle.semantics.specs.Run.{Run, Context, initial}
+use Rattle.semantics.specs.Run.{Run, Context, fixed-weights, initial}
 use Rattle.semantics.specs.Call.{after-all}
 use Rattle.semantics.specs.Operations.{Asked, denies, gives, with-list}
 use Rattle.lent.specs.Lines.{calls-in, lines}
@@ -52,8 +52,9 @@ unfoldable pub printed : Asked (List ℕ) → List ℕ
 printed (denies k) = refused-line k
 printed (gives lines) = lines
 
--- The whole output, by the bytes of jobs.bin, library.bin and standard input: open asks as ever, "as check, then 8".
+-- The whole output, by the bytes of jobs.bin, library.bin and standard input: open asks as ever, "as check, then 8". Request 105:
+-- "Coordinator and preview pass today's numbers".
 unfoldable pub transcript : List ℕ → List ℕ → List ℕ → List ℕ
 transcript jobs library input =
     let memory = memory-of library in
-    printed (with-list (decode jobs) memory (λ c. lines-from c (initial c memory) input))
+    printed (with-list (decode jobs) memory fixed-weights (λ c. lines-from c (initial c memory) input))

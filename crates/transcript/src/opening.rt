@@ -5,6 +5,7 @@ ghost use mathlib.Core.List.{[], _∷_};
 ghost use lib.ListN.{length};
 ghost use lib.Seq.{sets};
 ghost use Rattle.library.specs.Library.{memory-of};
+ghost use Rattle.semantics.specs.Run.{fixed-weights};
 ghost use Rattle.semantics.specs.Operations.{open-asked};
 ghost use Rattle.runtime.specs.Asked.{open-number, OpenedAs};
 ghost use Rattle.transcript.specs.Promises.{Wrote, given, open-bytes};
@@ -12,24 +13,27 @@ use crate::decimal::put_followed;
 use runtime::OpenAnswer;
 use runtime::Opened;
 
-// Opens a run of a job list with the numbers of a library, four bytes for each.
+// Opens a run of a job list with the numbers of a library, four bytes for each, under today's weights.
 pub fn open_files(jobs: &[u8], numbers: &[u8]) -> Opened
-    ensures { λ r. ⌜ OpenedAs (now (jobs .entry)) (open-asked (now (jobs .entry)) (memory-of (now (numbers .entry)))) r ⌝ }
+    ensures { λ r. ⌜ OpenedAs (now (jobs .entry)) fixed-weights (open-asked (now (jobs .entry)) (memory-of (now (numbers .entry))) fixed-weights) r ⌝ }
 {
     let read = library::read_numbers(numbers);
     let values = read.values;
     let count = read.count;
-    fresh::open(jobs, &values[..count])
+    let weights = fresh::todays_weights();
+    fresh::open(jobs, &values[..count], &weights)
 }
 
 // What open answers, as document 01's number: 0 where it accepts.
 pub fn open_number(answer: OpenAnswer) -> u8
-    ensures { λ r. ⌜ (r ≡ open-number answer) × (r ≤ 8) ⌝ }
+    ensures { λ r. ⌜ (r ≡ open-number answer) × (r ≤ 22) ⌝ }
 {
     match answer {
         OpenAnswer::Accepted => 0,
         OpenAnswer::Refused { refusal } => tasklist::refusal_number(refusal),
         OpenAnswer::Length => 8,
+        OpenAnswer::Table => 21,
+        OpenAnswer::Weight => 22,
     }
 }
 

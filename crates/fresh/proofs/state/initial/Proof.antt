@@ -33,6 +33,7 @@ returns c =
       left = search needs;
       calls = search needs;
       weight = search needs;
+      table = search needs;
     }
 
 pub initial-spec : {M : Type 1} → statement M

@@ -72,24 +72,24 @@ wrapping-add-u32-requires-2 c κs = search needs
 -- src/calls.rt:182:5
 returns-2 : tie.Need-returns-2
 returns-2 c =
-    let a = c .before .before .before .before .before .before .before .before .before .before .before .before .args in
+    let a = c .before .before .before .before .before .before .before .before .before .before .before .before .before .args in
     let done = c .before .before .before .end-change in
-    let sizes = length-lowered (λ (v : ℕ). v) (a .t1 .tables .sizes) 32 (c .before .before .before .before .before .before .before .before .before .before .before .before .good .0 .1 .1 .0 .1 .1 .1 .1 .1 .1 .1 .0 .1 .0 .1) in
-    let cells = length-lowered (the-cell .to) (a .t1 .tables .cells) 1024 (c .before .before .before .before .before .before .before .before .before .before .before .before .good .0 .1 .1 .0 .1 .1 .1 .1 .1 .1 .1 .1 .0 .1 .0 .1) in
+    let sizes = length-lowered (λ (v : ℕ). v) (a .t1 .tables .sizes) 32 (c .before .before .before .before .before .before .before .before .before .before .before .before .before .good .0 .1 .1 .0 .1 .1 .1 .1 .1 .1 .1 .0 .1 .0 .1) in
+    let cells = length-lowered (the-cell .to) (a .t1 .tables .cells) 1024 (c .before .before .before .before .before .before .before .before .before .before .before .before .before .good .0 .1 .1 .0 .1 .1 .1 .1 .1 .1 .1 .1 .0 .1 .0 .1) in
     let fits : c .before .before .before .before .before .row-size .result ≡ length (body-of (list-of (a .t1 .tables)) (record-of (a .t1) (a .task) .body)) =
     c .before .before .before .before .before .row-size .ensures .0 ∙ body-size-is (a .t1 .tables) (record-of (a .t1) (a .task) .body) sizes cells in
-    call-refused «end» (a .t1) (a .task) (done .result) (ordered (done .last .0) (a .t1 .left) (a .t1)) (done .ensures (a .t1) refl fits) (c .before .answer .given .0 .0) (c .before .answer .given .1)
+    call-refused «end» (a .t1) (a .task) (done .result) (ordered (done .last .0) (a .t1 .left) (a .t1)) (done .ensures (a .t1) refl refl fits) (c .before .answer .given .0 .0) (c .before .answer .given .1)
 
 -- src/calls.rt:182:5
 returns-3 : tie.Need-returns-3
 returns-3 c =
-    let a = c .before .before .before .before .before .before .before .before .before .before .before .before .before .before .args in
+    let a = c .before .before .before .before .before .before .before .before .before .before .before .before .before .before .before .args in
     let done = c .before .before .before .before .before .end-change in
-    let sizes = length-lowered (λ (v : ℕ). v) (a .t1 .tables .sizes) 32 (c .before .before .before .before .before .before .before .before .before .before .before .before .before .before .good .0 .1 .1 .0 .1 .1 .1 .1 .1 .1 .1 .0 .1 .0 .1) in
-    let cells = length-lowered (the-cell .to) (a .t1 .tables .cells) 1024 (c .before .before .before .before .before .before .before .before .before .before .before .before .before .before .good .0 .1 .1 .0 .1 .1 .1 .1 .1 .1 .1 .1 .0 .1 .0 .1) in
+    let sizes = length-lowered (λ (v : ℕ). v) (a .t1 .tables .sizes) 32 (c .before .before .before .before .before .before .before .before .before .before .before .before .before .before .before .good .0 .1 .1 .0 .1 .1 .1 .1 .1 .1 .1 .0 .1 .0 .1) in
+    let cells = length-lowered (the-cell .to) (a .t1 .tables .cells) 1024 (c .before .before .before .before .before .before .before .before .before .before .before .before .before .before .before .good .0 .1 .1 .0 .1 .1 .1 .1 .1 .1 .1 .1 .0 .1 .0 .1) in
     let fits : c .before .before .before .before .before .before .before .row-size .result ≡ length (body-of (list-of (a .t1 .tables)) (record-of (a .t1) (a .task) .body)) =
     c .before .before .before .before .before .before .before .row-size .ensures .0 ∙ body-size-is (a .t1 .tables) (record-of (a .t1) (a .task) .body) sizes cells in
-    call-accepted «end» (a .t1) (a .task) (done .result) (ordered (done .last .0) (a .t1 .left) (a .t1)) (done .ensures (a .t1) refl fits) (c .before .before .before .enum-told .given .1)
+    call-accepted «end» (a .t1) (a .task) (done .result) (ordered (done .last .0) (a .t1 .left) (a .t1)) (done .ensures (a .t1) refl refl fits) (c .before .before .before .enum-told .given .1)
     (c .before .wrapping-add-u32 .result) (c .wrapping-add-u322 .result) (c .before .wrapping-add-u32 .ensures) (c .wrapping-add-u322 .ensures)
 
 pub end-spec : {M : Type 1} → statement M

@@ -54,16 +54,16 @@ wrapping-add-u32-requires-2 c κs = search needs
 -- src/calls.rt:147:5
 returns-2 : tie.Need-returns-2
 returns-2 c =
-    let a = c .before .before .before .before .before .before .before .before .before .args in
+    let a = c .before .before .before .before .before .before .before .before .before .before .args in
     let done = c .before .before .before .start-change in
-    call-refused start (a .t1) (a .task) (done .result) (a .t1) (done .ensures (a .t1) refl) (c .before .answer .given .0 .0) (c .before .answer .given .1)
+    call-refused start (a .t1) (a .task) (done .result) (a .t1) (done .ensures (a .t1) refl refl) (c .before .answer .given .0 .0) (c .before .answer .given .1)
 
 -- src/calls.rt:147:5
 returns-3 : tie.Need-returns-3
 returns-3 c =
-    let a = c .before .before .before .before .before .before .before .before .before .before .before .args in
+    let a = c .before .before .before .before .before .before .before .before .before .before .before .before .args in
     let done = c .before .before .before .before .before .start-change in
-    call-accepted start (a .t1) (a .task) (done .result) (a .t1) (done .ensures (a .t1) refl) (c .before .before .before .enum-told .given .1) (c .before .wrapping-add-u32 .result)
+    call-accepted start (a .t1) (a .task) (done .result) (a .t1) (done .ensures (a .t1) refl refl) (c .before .before .before .enum-told .given .1) (c .before .wrapping-add-u32 .result)
     (c .wrapping-add-u322 .result) (c .before .wrapping-add-u32 .ensures) (c .wrapping-add-u322 .ensures)
 
 pub start-spec : {M : Type 1} → statement M

@@ -10,11 +10,11 @@ use Rattle.runtime.proofs.Run.step.Statement.{statement}
 use Rattle.runtime.proofs.Run.step.Tie as tie
 
 abbrev Inv-loop : tie.InvT-loop
-Inv-loop task n tables memory modes order change records₀ calls weight made child apart i₀ records i =
+Inv-loop task n weights tables memory modes order change records₀ calls weight made child apart i₀ records i =
     ChildrenLeft child apart made i₀ records₀ i records
 
 abbrev μ-loop : tie.MeasureT-loop
-μ-loop task n tables memory modes order change records₀ calls weight made child apart i₀ records i = i
+μ-loop task n weights tables memory modes order change records₀ calls weight made child apart i₀ records i = i
 
 -- the next child's record has a place
 near :
@@ -94,14 +94,14 @@ loop-again c =
 
 returns-2 : tie.Need-returns-2 Inv-loop μ-loop
 returns-2 c =
-    let a = c .before .before .before .before .before .before .before .before .before .before .before .before .before .args in
+    let a = c .before .before .before .before .before .before .before .before .before .before .before .before .before .before .args in
     let done = c .before .before .before .step-change in
     stepped-refused (a .t1) (a .task) (done .last .1 .0) (done .last .1 .1 .0) (done .last .1 .1 .1 .0) (done .result) (done .ensures)
     (c .before .answer .given .0 .0) (c .before .answer .given .1)
 
 returns-3 : tie.Need-returns-3 Inv-loop μ-loop
 returns-3 c =
-    let a = c .before .before .before .before .before .before .before .before .before .before .before .before .before .before .before .before .before .before .before .args in
+    let a = c .before .before .before .before .before .before .before .before .before .before .before .before .before .before .before .before .before .before .before .before .args in
     let done = c .before .before .before .before .before .before .before .before .before .step-change in
     let l = c .before .loop in
     let change = done .result in

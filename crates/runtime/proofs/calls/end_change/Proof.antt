@@ -47,8 +47,8 @@ fewer-requires : tie.Need-fewer-requires
 fewer-requires c κs = search needs
 
 -- src/calls.rt:140:40
-array-read-changed : tie.Need-array-read-changed
-array-read-changed c = search needs
+weight-at-requires : tie.Need-weight-at-requires
+weight-at-requires c κs = search needs
 
 -- src/calls.rt:140:13
 changed-requires : tie.Need-changed-requires
@@ -58,7 +58,7 @@ changed-requires c κs = search needs
 returns : tie.Need-returns
 returns c =
     let a = c .before .before .before .before .before .before .args in
-    λ run same fits.
+    λ run same table fits.
     let at = ordered (now (a .order)) (a .left) run in
     change-refused «end» at (a .task) (a .own) (c .before .before .found .given .0 .0) same
     (subst (PlannedAs «end» (end-effect at (a .task)) at (a .task)) (c .before .before .found .given .1) (c .before .before .before .before .end-look .ensures run same fits))
@@ -67,16 +67,16 @@ returns c =
 -- src/calls.rt:131:1
 returns-2 : tie.Need-returns-2
 returns-2 c =
-    let a = c .before .before .before .before .before .before .before .before .before .before .args in
-    let found = c .before .before .before .before .before .before .found2 in
-    let removed = c .before .before .remove in
-    λ run same fits.
+    let a = c .before .before .before .before .before .before .before .before .before .before .before .args in
+    let found = c .before .before .before .before .before .before .before .found2 in
+    let removed = c .before .before .before .remove in
+    λ run same table fits.
     let at = ordered (now (a .order)) (a .left) run in
-    let free = subst (PlannedAs «end» (end-effect at (a .task)) at (a .task)) (found .given .1) (c .before .before .before .before .before .before .before .before .end-look .ensures run same fits) in
+    let free = subst (PlannedAs «end» (end-effect at (a .task)) at (a .task)) (found .given .1) (c .before .before .before .before .before .before .before .before .before .end-look .ensures run same fits) in
     end-changed at (a .task) (found .given .0 .0) (a .own) same (free .0) (free .1) (removed .last .0) (removed .ensures .1) (removed .ensures .0)
-    (c .changed .result)
-    (c .changed .ensures ∙ ap (λ t. counted t (c .before .fewer .result) 2) (c .before .before .before .before .in-state .ensures)
-    ∙ ap (λ (k : ℕ). counted (with-state 3 (a .own)) k 2) (c .before .fewer .ensures))
+    (a .weights) table (c .before .weight-at .result) (c .before .weight-at .ensures .0) (c .changed .result)
+    (c .changed .ensures ∙ ap (λ t. counted t (c .before .before .fewer .result) (c .before .weight-at .result)) (c .before .before .before .before .before .in-state .ensures)
+    ∙ ap (λ (k : ℕ). counted (with-state 3 (a .own)) k (c .before .weight-at .result)) (c .before .before .fewer .ensures))
 
 pub end-change-spec : {M : Type 1} → statement M
 end-change-spec =
@@ -89,7 +89,7 @@ end-change-spec =
     in-state-requires
     remove-requires
     fewer-requires
-    array-read-changed
+    weight-at-requires
     changed-requires
     returns
     returns-2)

@@ -35,8 +35,8 @@ in-state-requires : tie.Need-in-state-requires
 in-state-requires c κs = search needs
 
 -- src/calls.rt:125:33
-array-read-changed : tie.Need-array-read-changed
-array-read-changed c = search needs
+weight-at-requires : tie.Need-weight-at-requires
+weight-at-requires c κs = search needs
 
 -- src/calls.rt:125:13
 changed-requires : tie.Need-changed-requires
@@ -46,7 +46,7 @@ changed-requires c κs = search needs
 returns : tie.Need-returns
 returns c =
     let a = c .before .before .before .before .before .args in
-    λ run same.
+    λ run same table.
     let at = with-parts (run .tables) (run .memory) (now (a .modes)) (now (a .order)) (a .left) run in
     change-refused start at (a .task) (a .own) (c .before .before .found .given .0 .0) same
     (subst (PlannedAs start (start-effect at (a .task)) at (a .task)) (c .before .before .found .given .1) (c .before .before .before .before .start-look .ensures run same))
@@ -55,12 +55,12 @@ returns c =
 -- src/calls.rt:111:1
 returns-2 : tie.Need-returns-2
 returns-2 c =
-    let a = c .before .before .before .before .before .args in
-    λ run same.
+    let a = c .before .before .before .before .before .before .args in
+    λ run same table.
     let at = with-parts (run .tables) (run .memory) (now (a .modes)) (now (a .order)) (a .left) run in
-    let free = subst (PlannedAs start (start-effect at (a .task)) at (a .task)) (c .before .before .enum-told .given .1) (c .before .before .before .before .start-look .ensures run same) in
-    start-changed at (a .task) (a .own) same (free .0) (λ s. free .1 s .1) (c .changed .result)
-    (c .changed .ensures ∙ ap (λ t. counted t (a .left) 5) (c .before .in-state .ensures))
+    let free = subst (PlannedAs start (start-effect at (a .task)) at (a .task)) (c .before .before .before .enum-told .given .1) (c .before .before .before .before .before .start-look .ensures run same) in
+    start-changed at (a .task) (a .own) same (free .0) (λ s. free .1 s .1) (a .weights) table (c .before .weight-at .result) (c .before .weight-at .ensures .0) (c .changed .result)
+    (c .changed .ensures ∙ ap (λ t. counted t (a .left) (c .before .weight-at .result)) (c .before .before .in-state .ensures))
 
 pub start-change-spec : {M : Type 1} → statement M
 start-change-spec =
@@ -71,7 +71,7 @@ start-change-spec =
     unchanged-requires
     enum-told
     in-state-requires
-    array-read-changed
+    weight-at-requires
     changed-requires
     returns
     returns-2)

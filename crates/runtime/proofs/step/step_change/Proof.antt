@@ -10,7 +10,6 @@ use Rattle.tasklist.specs.Tables.{list-of, blank-cell}
 use Rattle.tasklist.proofs.Cell.{the-type as the-cell}
 use Rattle.tasklist.proofs.PlaceLaws.{length-lowered}
 use Rattle.listing.proofs.AccessLaws.{body-size-is, instruction-is}
-use Rattle.semantics.specs.Run.{context, fixed-weights, weight-of}
 use Rattle.runtime.specs.declared.Located.the-variants.{At}
 use Rattle.runtime.specs.Changes.{ReadyIn}
 use Rattle.runtime.proofs.ChangeLaws.{not-finished}
@@ -64,35 +63,31 @@ cell-below c =
     omega (arith, within c, size .1, body)
 
 -- what the plan of the instruction says
-abbrev found-of : tie.After-plan-of → tie.After-found2
-found-of c = c .before .before .before .before .before .before .before .before .before
+abbrev found-of : tie.After-weight-at → tie.After-found2
+found-of c = c .before .before .before .before .before .before .before .before .before .before .before
 
 abbrev instruction-at : tie.After-found2 → Instruction
 instruction-at c =
     let a = start-of c .args in
     getD (a .t1 .cells) (32 * a .own .body + a .own .pc) blank-cell .instruction
 
-abbrev weight-at : tie.After-units-of → ℕ
-weight-at c =
-    c .units-of .result
-    * weight-of (context (list-of (start-of (found-of (c .before)) .args .t1))) (c .before .before .before .before .before .before .code-of .result + 2)
-
 there :
-    (c : tie.After-units-of)
-    → let a = start-of (found-of (c .before)) .args in
-    StepsBy (a .t1) (a .memory .now) (a .modes .now) (a .order .now) (a .left) (a .own) (a .task) (place-at (found-of (c .before))) (weight-at c)
-    (c .before .plan-of .result)
+    (c : tie.After-weight-at)
+    → let a = start-of (found-of c) .args in
+    StepsBy (a .t1) (a .memory .now) (a .modes .now) (a .order .now) (a .left) (a .own) (a .task) (a .weights) (place-at (found-of c))
+    (c .before .units-of .result * c .weight-at .result) (c .before .before .plan-of .result)
 there c =
-    let f = found-of (c .before) in
+    let f = found-of c in
     let s = start-of f in
     let a = s .args in
     let fits = size-is (f .before .before .before .before) in
-    let code = c .before .before .before .before .before .before .code-of in
-    steps-by (a .t1) (a .memory .now) (a .modes .now) (a .order .now) (a .left) (a .own) (a .task) (size-at f) fits (place-at f) (ready f)
+    let code = c .before .before .before .before .before .before .before .code-of in
+    steps-by (a .t1) (a .memory .now) (a .modes .now) (a .order .now) (a .left) (a .own) (a .task) (a .weights) (size-at f) fits (place-at f) (ready f)
     (instruction-at f)
     (instruction-is (a .t1) (a .own .body) (sizes-whole s) (cells-whole s) (a .own .pc) (omega (arith, within f, fits)) blank-cell)
-    (code .result) (code .ensures .0) (c .before .plan-of .result) (c .before .plan-of .ensures)
-    (c .units-of .result) (c .units-of .ensures .0) (c .units-of .ensures .1)
+    (code .result) (code .ensures .0) (c .before .before .plan-of .result) (c .before .before .plan-of .ensures)
+    (c .before .units-of .result) (c .before .units-of .ensures .0) (c .before .units-of .ensures .1)
+    (c .weight-at .result) (c .weight-at .ensures .0) (c .weight-at .ensures .1)
 
 cast-body : tie.Need-cast-body
 cast-body c = search needs
@@ -137,18 +132,14 @@ plan-of-requires c κs =
 units-of-requires : tie.Need-units-of-requires
 units-of-requires c κs = search needs
 
-add-weight : tie.Need-add-weight
-add-weight c = search needs
+add-weight-at : tie.Need-add-weight-at
+add-weight-at c = search needs
+
+weight-at-requires : tie.Need-weight-at-requires
+weight-at-requires c κs = search needs
 
 mul-weight : tie.Need-mul-weight
-mul-weight c = search needs
-
-array-read-weight : tie.Need-array-read-weight
-array-read-weight c = search needs
-
-mul-weight-2 : tie.Need-mul-weight-2
-unfolding weight-of fixed-weights
-mul-weight-2 c = omega (arith, there c .light)
+mul-weight c = omega (arith, there c .light)
 
 enum-known-plan : tie.Need-enum-known-plan
 enum-known-plan c = search needs
@@ -202,66 +193,60 @@ enum-known-plan-6 : tie.Need-enum-known-plan-6
 enum-known-plan-6 c = search needs
 
 spawned-requires : tie.Need-spawned-requires
-spawned-requires c κs = ready (c .before .before .before .before .before .before .before .before .before .before .before .before .before .before .before) .0
+spawned-requires c κs = ready (c .before .before .before .before .before .before .before .before .before .before .before .before .before .before .before .before) .0
 
 returns : tie.Need-returns
 returns c =
     let s = c .before .before .before .before .before .before .before .before .before .before in
     let a = s .args in
     let size = c .before .before .before .before .before .before .row-size .result in
-    change-before (a .t1) (a .memory .now) (a .modes .now) (a .order .now) (a .left) (a .own) (a .task) size (size-is (c .before .before .before .before .before .before))
+    change-before (a .t1) (a .memory .now) (a .modes .now) (a .order .now) (a .left) (a .own) (a .task) (a .weights) size (size-is (c .before .before .before .before .before .before))
     (c .before .before .found .given .0 .0)
     (subst (ReadyIn (a .order .now) (a .left) (a .own) size (a .task)) (c .before .before .found .given .1) (c .before .before .before .before .step-look .ensures))
     (c .unchanged .result) (c .unchanged .ensures)
 
 returns-2 : tie.Need-returns-2
-unfolding weight-of fixed-weights
 returns-2 c =
     let p = c .before .before .before .before in
-    let a = start-of (found-of (p .before)) .args in
-    change-held (a .t1) (a .memory .now) (a .modes .now) (a .order .now) (a .left) (a .own) (a .task) (place-at (found-of (p .before))) (weight-at p) (p .before .plan-of .result) (there p)
+    let a = start-of (found-of p) .args in
+    change-held (a .t1) (a .memory .now) (a .modes .now) (a .order .now) (a .left) (a .own) (a .task) (a .weights) (place-at (found-of p)) (p .before .units-of .result * p .weight-at .result) (p .before .before .plan-of .result) (there p)
     (c .before .before .plan .given .0 .0) (c .before .before .plan .given .1) (c .unchanged2 .result) (c .unchanged2 .ensures)
 
 returns-3 : tie.Need-returns-3
-unfolding weight-of fixed-weights
 returns-3 c =
     let p = c .before .before .before .before .before in
-    let a = start-of (found-of (p .before)) .args in
-    change-fault (a .t1) (a .memory .now) (a .modes .now) (a .order .now) (a .left) (a .own) (a .task) (place-at (found-of (p .before))) (weight-at p) (p .before .plan-of .result) (there p)
+    let a = start-of (found-of p) .args in
+    change-fault (a .t1) (a .memory .now) (a .modes .now) (a .order .now) (a .left) (a .own) (a .task) (a .weights) (place-at (found-of p)) (p .before .units-of .result * p .weight-at .result) (p .before .before .plan-of .result) (there p)
     (c .before .before .before .plan2 .given .0 .0) (c .before .before .before .plan2 .given .1) (c .before .failed .result) (c .before .failed .ensures) (c .changed .result) (c .changed .ensures)
 
 returns-4 : tie.Need-returns-4
-unfolding weight-of fixed-weights
 returns-4 c =
     let p = c .before .before .before .before .before .before in
-    let a = start-of (found-of (p .before)) .args in
-    change-assign (a .t1) (a .memory .now) (a .modes .now) (a .order .now) (a .left) (a .own) (a .task) (place-at (found-of (p .before))) (weight-at p) (p .before .plan-of .result) (there p)
+    let a = start-of (found-of p) .args in
+    change-assign (a .t1) (a .memory .now) (a .modes .now) (a .order .now) (a .left) (a .own) (a .task) (a .weights) (place-at (found-of p)) (p .before .units-of .result * p .weight-at .result) (p .before .before .plan-of .result) (there p)
     (c .before .before .before .before .plan3 .given .0 .0) (c .before .before .before .before .plan3 .given .0 .1 .0) (c .before .before .before .before .plan3 .given .1) (c .before .before .passed .result) (c .before .holding .result) (c .before .before .passed .ensures .0) (c .before .holding .ensures)
     (c .changed2 .result) (c .changed2 .ensures)
 
 returns-5 : tie.Need-returns-5
-unfolding weight-of fixed-weights
 returns-5 c =
     let p = c .before .before .before .before .before in
-    let a = start-of (found-of (p .before)) .args in
-    change-pass (a .t1) (a .memory .now) (a .modes .now) (a .order .now) (a .left) (a .own) (a .task) (place-at (found-of (p .before))) (weight-at p) (p .before .plan-of .result) (there p)
+    let a = start-of (found-of p) .args in
+    change-pass (a .t1) (a .memory .now) (a .modes .now) (a .order .now) (a .left) (a .own) (a .task) (a .weights) (place-at (found-of p)) (p .before .units-of .result * p .weight-at .result) (p .before .before .plan-of .result) (there p)
     (c .before .before .before .plan4 .given .0 .0) (c .before .passed2 .ensures .1) (c .before .before .before .plan4 .given .1) (c .before .passed2 .result) (c .before .passed2 .ensures .0) (c .changed3 .result) (c .changed3 .ensures)
 
 returns-6 : tie.Need-returns-6
-unfolding weight-of fixed-weights
 returns-6 c =
     let p = c .before .before .before .before .before .before .before in
-    let a = start-of (found-of (p .before)) .args in
-    change-store (a .t1) (a .memory .now) (a .modes .now) (a .order .now) (a .left) (a .own) (a .task) (place-at (found-of (p .before))) (weight-at p) (p .before .plan-of .result) (there p)
+    let a = start-of (found-of p) .args in
+    change-store (a .t1) (a .memory .now) (a .modes .now) (a .order .now) (a .left) (a .own) (a .task) (a .weights) (place-at (found-of p)) (p .before .units-of .result * p .weight-at .result) (p .before .before .plan-of .result) (there p)
     (c .before .before .before .before .before .plan5 .given .0 .0) (c .before .before .before .before .before .plan5 .given .0 .1 .0) (c .before .before .before .before .before .plan5 .given .1) (c .before .before .before .passed3 .result) (c .before .before .before .passed3 .ensures .0) (c .before .store .last .0) (c .before .store .ensures)
     (c .changed4 .result) (c .changed4 .ensures)
 
 returns-7 : tie.Need-returns-7
-unfolding weight-of fixed-weights
 returns-7 c =
     let p = c .before .before .before .before .before .before in
-    let a = start-of (found-of (p .before)) .args in
-    change-spawn (a .t1) (a .memory .now) (a .modes .now) (a .order .now) (a .left) (a .own) (a .task) (place-at (found-of (p .before))) (weight-at p) (p .before .plan-of .result) (there p)
+    let a = start-of (found-of p) .args in
+    change-spawn (a .t1) (a .memory .now) (a .modes .now) (a .order .now) (a .left) (a .own) (a .task) (a .weights) (place-at (found-of p)) (p .before .units-of .result * p .weight-at .result) (p .before .before .plan-of .result) (there p)
     (c .before .before .before .before .plan6 .given .0 .0) (c .before .before .before .before .plan6 .given .0 .1 .0)
     (c .before .before .before .before .plan6 .given .0 .1 .1 .0) (c .before .before .before .before .plan6 .given .0 .1 .1 .1 .0) (c .before .before .before .before .plan6 .given .1) (c .spawned .last .1 .0) (c .spawned .last .1 .1 .0) (c .spawned .result) (c .spawned .ensures)
 
@@ -283,10 +268,9 @@ step-change-spec =
     code-of-requires
     plan-of-requires
     units-of-requires
-    add-weight
+    add-weight-at
+    weight-at-requires
     mul-weight
-    array-read-weight
-    mul-weight-2
     enum-known-plan
     unchanged-requires-2
     enum-known-plan-2

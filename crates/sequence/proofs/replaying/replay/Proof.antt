@@ -16,9 +16,9 @@ open-requires c κs = search needs
 -- src/replaying.rt:52:9
 returns : tie.Need-returns
 returns c =
-    let a = c .before .before .before .before .before .before .before .before .args in
+    let a = c .before .before .before .before .before .before .before .before .before .args in
     let opened = c .before .before .before .«open» in
-    replay-refused (now (a .list)) (now (a .memory)) (calls-of (now (a .kinds)) (now (a .tasks))) (opened .result) (opened .ensures) (c .if1 .taken)
+    replay-refused (now (a .list)) (now (a .memory)) (now (a .weights)) (opened .result) (opened .ensures) (calls-of (now (a .kinds)) (now (a .tasks))) (c .if1 .taken)
 
 -- src/replaying.rt:54:9
 all-called-requires : tie.Need-all-called-requires
@@ -27,9 +27,9 @@ all-called-requires c κs = search needs
 -- src/replaying.rt:45:1
 returns-2 : tie.Need-returns-2
 returns-2 c =
-    let a = c .before .before .before .before .before .before .before .before .before .args in
+    let a = c .before .before .before .before .before .before .before .before .before .before .args in
     let opened = c .before .before .before .before .«open» in
-    replay-made (now (a .list)) (now (a .memory)) (calls-of (now (a .kinds)) (now (a .tasks))) (opened .result) (opened .ensures) (c .before .if1 .left) (c .all-called .result) (c .all-called .ensures)
+    replay-made (now (a .list)) (now (a .memory)) (now (a .weights)) (opened .result) (opened .ensures) (calls-of (now (a .kinds)) (now (a .tasks))) (c .before .if1 .left) (c .all-called .result) (c .all-called .ensures)
 
 pub replay-spec : {M : Type 1} → statement M
 replay-spec = tie.close (tie.spec open-requires returns all-called-requires returns-2)

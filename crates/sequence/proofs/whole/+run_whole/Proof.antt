@@ -40,25 +40,25 @@ run-whole-below t =
     and 3 run-whole-kinds.ps (falls 3 run-whole-kinds.ps _<_ μ-run-whole t) run-whole.Pre
 
 abbrev run-whole-Inv-loop2 : run-whole-lts.InvT-loop2
-run-whole-Inv-loop2 memory modes order task bodies tables p₀ size steps size' child apart children made i₀ p i =
+run-whole-Inv-loop2 memory modes order task bodies weights tables p₀ size steps size' child apart children made i₀ p i =
     Writing child apart made i₀ p₀ i p
 
 abbrev run-whole-μ-loop2 : run-whole-lts.MeasureT-loop2
-run-whole-μ-loop2 memory modes order task bodies tables p₀ size steps size' child apart children made i₀ p i = i
+run-whole-μ-loop2 memory modes order task bodies weights tables p₀ size steps size' child apart children made i₀ p i = i
 
 abbrev run-whole-Inv-loop3 : run-whole-lts.InvT-loop3
-run-whole-Inv-loop3 memory₀ modes₀ order₀ task bodies tables p₀ size steps size' child apart children i j₀ memory modes order p j =
-    EachLeft bodies child apart children (joined tables p₀ memory₀ modes₀ order₀) j (joined tables p memory modes order)
+run-whole-Inv-loop3 memory₀ modes₀ order₀ task bodies weights tables p₀ size steps size' child apart children i j₀ memory modes order p j =
+    EachLeft bodies child apart children (joined tables weights p₀ memory₀ modes₀ order₀) j (joined tables weights p memory modes order)
 
 abbrev run-whole-μ-loop3 : run-whole-lts.MeasureT-loop3
-run-whole-μ-loop3 memory₀ modes₀ order₀ task bodies tables p₀ size steps size' child apart children i j₀ memory modes order p j = children - j
+run-whole-μ-loop3 memory₀ modes₀ order₀ task bodies weights tables p₀ size steps size' child apart children i j₀ memory modes order p j = children - j
 
 abbrev run-whole-Inv-loop : run-whole-lts.InvT-loop
-run-whole-Inv-loop memory₀ modes₀ order₀ task bodies tables p₀ size steps₀ memory modes order p steps =
-    StepsLeft bodies task steps₀ (joined tables p₀ memory₀ modes₀ order₀) steps (joined tables p memory modes order)
+run-whole-Inv-loop memory₀ modes₀ order₀ task bodies weights tables p₀ size steps₀ memory modes order p steps =
+    StepsLeft bodies task steps₀ (joined tables weights p₀ memory₀ modes₀ order₀) steps (joined tables weights p memory modes order)
 
 abbrev run-whole-μ-loop : run-whole-lts.MeasureT-loop
-run-whole-μ-loop memory₀ modes₀ order₀ task bodies tables p₀ size steps₀ memory modes order p steps = steps
+run-whole-μ-loop memory₀ modes₀ order₀ task bodies weights tables p₀ size steps₀ memory modes order p steps = steps
 
 run-whole-returns : (t : ℕ) → run-whole-lts.Need-returns (
   row-size-reads.Asked,
@@ -88,7 +88,7 @@ run-whole-returns : (t : ℕ) → run-whole-lts.Need-returns (
     run-whole-μ-loop
 run-whole-returns t c =
     let a = c .before .args in
-    whole-none (a .bodies) (a .task) (joined (a .t1) (a .progress) (now (a .memory)) (now (a .modes)) (now (a .order))) (c .if1 .taken)
+    whole-none (a .bodies) (a .task) (joined (a .t1) (a .weights) (a .progress) (now (a .memory)) (now (a .modes)) (now (a .order))) (c .if1 .taken)
 
 run-whole-mul-own : (t : ℕ) → run-whole-lts.Need-mul-own (
   row-size-reads.Asked,
@@ -626,17 +626,17 @@ run-whole-loop-again t c =
     let a = c .before .before .before .before .before .before .before .before .before .before .before .before .before .before .before .before .before .before .before .before .before .args in
     let sizes = length-lowered (λ (v : ℕ). v) (a .t1 .sizes) 32 (c .before .before .before .before .before .before .before .before .before .before .before .before .before .before .before .before .before .before .before .before .before .good .0 .1 .1 .1 .1 .1 .1 .1 .0 .1 .0 .1) in
     let cells = length-lowered (the-cell .to) (a .t1 .cells) 1024 (c .before .before .before .before .before .before .before .before .before .before .before .before .before .before .before .before .before .before .before .before .before .good .0 .1 .1 .1 .1 .1 .1 .1 .1 .0 .1 .0 .1) in
-    let run = joined (a .t1) (a .progress) (now (a .memory)) (now (a .modes)) (now (a .order)) in
+    let run = joined (a .t1) (a .weights) (a .progress) (now (a .memory)) (now (a .modes)) (now (a .order)) in
     let size = c .before .before .before .before .before .before .before .before .before .before .before .before .before .before .before .row-size in
     let limit = size .result + 1 in
     let room = enough-steps run (a .task) (c .before .before .before .before .before .before .before .before .before .before .before .before .before .before .before .before .before .before .before .before .before .pre .1) (size .result) (size .ensures .0 ∙ body-size-is (a .t1) (record-of run (a .task) .body) sizes cells) in
     let change = c .before .before .before .before .before .before .before .before .before .before .before .before .start-change in
     let calls = c .before .before .before .before .before .before .before .before .before .before .wrapping-add-u32 in
     let weight = c .before .before .before .before .before .before .before .before .before .wrapping-add-u322 in
-    let from = joined (a .t1) (onward (a .progress) (a .task) (change .result) (calls .result) (weight .result)) (now (a .memory)) (now (a .modes)) (now (a .order)) in
-    let begun = start-joined (a .t1) (a .progress) (now (a .memory)) (now (a .modes)) (now (a .order)) (a .task) (change .result) (calls .result) (weight .result) (calls .ensures) (weight .ensures) (change .ensures) in
+    let from = joined (a .t1) (a .weights) (onward (a .progress) (a .task) (change .result) (calls .result) (weight .result)) (now (a .memory)) (now (a .modes)) (now (a .order)) in
+    let begun = start-joined (a .t1) (a .weights) (a .progress) (now (a .memory)) (now (a .modes)) (now (a .order)) (a .task) (change .result) (calls .result) (weight .result) (calls .ensures) (weight .ensures) (change .ensures) in
     let l = c .before .before .before .before .before .before .before .before .loop in
-    let r = joined (a .t1) (l .p) (l .memory) (l .modes) (l .order) in
+    let r = joined (a .t1) (a .weights) (l .p) (l .memory) (l .modes) (l .order) in
     let size2 = c .before .before .row-size2 in
     let at = c .before .at-end in
     let there : SoundRun r → at .result ≡ at-end (context-of r) (task-of (model r) (a .task)) =
@@ -1215,9 +1215,9 @@ run-whole-loop-again-2 t c =
     let change = c .before .before .before .before .before .before .before .before .before .before .before .before .before .before .before .before .before .before .before .before .before .before .before .before .start-change in
     let calls = c .before .before .before .before .before .before .before .before .before .before .before .before .before .before .before .before .before .before .before .before .before .before .wrapping-add-u32 in
     let weight = c .before .before .before .before .before .before .before .before .before .before .before .before .before .before .before .before .before .before .before .before .before .wrapping-add-u322 in
-    let from = joined (a .t1) (onward (a .progress) (a .task) (change .result) (calls .result) (weight .result)) (now (a .memory)) (now (a .modes)) (now (a .order)) in
+    let from = joined (a .t1) (a .weights) (onward (a .progress) (a .task) (change .result) (calls .result) (weight .result)) (now (a .memory)) (now (a .modes)) (now (a .order)) in
     let l = c .before .before .before .before .before .before .before .before .before .before .before .before .before .before .before .before .before .before .before .before .loop in
-    let r = joined (a .t1) (l .p) (l .memory) (l .modes) (l .order) in
+    let r = joined (a .t1) (a .weights) (l .p) (l .memory) (l .modes) (l .order) in
     let size2 = c .before .before .before .before .before .before .before .before .before .before .before .before .before .before .row-size2 in
     let at = c .before .before .before .before .before .before .before .before .before .before .before .before .before .at-end in
     let there : SoundRun r → at .result ≡ at-end (context-of r) (task-of (model r) (a .task)) =
@@ -1232,12 +1232,12 @@ run-whole-loop-again-2 t c =
     let p = onward (l .p) (a .task) step (calls2 .result) (weight2 .result) in
     let l2 = c .before .before .before .loop2 in
     let l3 = c .before .loop3 in
-    turn-taken (a .bodies) (a .task) limit from (l .steps) r (joined (a .t1) (l2 .p) m ms o) (l .inv) (c .before .before .before .before .before .before .before .before .before .before .before .before .before .before .before .before .before .before .before .loop-test .taken) (at .result) there (c .before .before .before .before .before .before .before .before .before .before .before .before .if2 .left)
-    (step-joined (a .t1) (l .p) (l .memory) (l .modes) (l .order) (a .task) step (calls2 .result) (weight2 .result) (calls2 .ensures) (weight2 .ensures) m ms o (stepping .ensures) (l2 .p)
+    turn-taken (a .bodies) (a .task) limit from (l .steps) r (joined (a .t1) (a .weights) (l2 .p) m ms o) (l .inv) (c .before .before .before .before .before .before .before .before .before .before .before .before .before .before .before .before .before .before .before .loop-test .taken) (at .result) there (c .before .before .before .before .before .before .before .before .before .before .before .before .if2 .left)
+    (step-joined (a .t1) (a .weights) (l .p) (l .memory) (l .modes) (l .order) (a .task) step (calls2 .result) (weight2 .result) (calls2 .ensures) (weight2 .ensures) m ms o (stepping .ensures) (l2 .p)
     (writing-done (step .child) (step .apart) (step .made) (step .children) p (l2 .i) (l2 .p) (c .before .before .loop2-test .left) (l2 .inv)))
     (step .child) (step .apart) (step .children)
-    (makes-joined (a .t1) (l .p) (l .memory) (l .modes) (l .order) (a .task) step (calls2 .result) (weight2 .result) (calls2 .ensures) (weight2 .ensures) m ms o (stepping .ensures))
-    (l3 .j) (joined (a .t1) (l3 .p) (l3 .memory) (l3 .modes) (l3 .order)) (c .loop3-test .left) (l3 .inv)
+    (makes-joined (a .t1) (a .weights) (l .p) (l .memory) (l .modes) (l .order) (a .task) step (calls2 .result) (weight2 .result) (calls2 .ensures) (weight2 .ensures) m ms o (stepping .ensures))
+    (l3 .j) (joined (a .t1) (a .weights) (l3 .p) (l3 .memory) (l3 .modes) (l3 .order)) (c .loop3-test .left) (l3 .inv)
 
 run-whole-mul-run-whole : (t : ℕ) → run-whole-lts.Need-mul-run-whole (
   row-size-reads.Asked,
@@ -1442,10 +1442,10 @@ run-whole-loop3-again t c =
     let a = c .before .before .before .before .before .before .before .before .before .before .before .before .before .before .before .before .before .before .before .before .before .before .before .before .before .before .before .before .before .before .before .before .before .before .before .before .before .args in
     let change = c .before .before .before .before .before .before .before .before .before .before .before .before .step-change .result in
     let l = c .before .before .before .before .before .loop3 in
-    let r = joined (a .t1) (l .p) (l .memory) (l .modes) (l .order) in
+    let r = joined (a .t1) (a .weights) (l .p) (l .memory) (l .modes) (l .order) in
     let whole = c .run-whole in
     each-one (a .bodies) (change .child) (change .apart) (change .children) _ (l .j) r (c .before .before .before .before .loop3-test .taken) (l .inv)
-    (joined (a .t1) (whole .result) (whole .last .1 .1 .0) (whole .last .1 .1 .1 .0) (whole .last .1 .1 .1 .1 .0)) (whole .ensures)
+    (joined (a .t1) (a .weights) (whole .result) (whole .last .1 .1 .0) (whole .last .1 .1 .1 .0) (whole .last .1 .1 .1 .1 .0)) (whole .ensures)
 
 run-whole-mul-own-3 : (t : ℕ) → run-whole-lts.Need-mul-own-3 (
   row-size-reads.Asked,
@@ -1757,24 +1757,24 @@ run-whole-returns-2 t c =
     let a = c .before .before .before .before .before .before .before .before .before .before .before .before .before .before .before .before .before .before .before .before .before .before .before .before .args in
     let sizes = length-lowered (λ (v : ℕ). v) (a .t1 .sizes) 32 (c .before .before .before .before .before .before .before .before .before .before .before .before .before .before .before .before .before .before .before .before .before .before .before .before .good .0 .1 .1 .1 .1 .1 .1 .1 .0 .1 .0 .1) in
     let cells = length-lowered (the-cell .to) (a .t1 .cells) 1024 (c .before .before .before .before .before .before .before .before .before .before .before .before .before .before .before .before .before .before .before .before .before .before .before .before .good .0 .1 .1 .1 .1 .1 .1 .1 .1 .0 .1 .0 .1) in
-    let run = joined (a .t1) (a .progress) (now (a .memory)) (now (a .modes)) (now (a .order)) in
+    let run = joined (a .t1) (a .weights) (a .progress) (now (a .memory)) (now (a .modes)) (now (a .order)) in
     let size = c .before .before .before .before .before .before .before .before .before .before .before .before .before .before .before .before .before .before .row-size in
     let limit = size .result + 1 in
     let room = enough-steps run (a .task) (c .before .before .before .before .before .before .before .before .before .before .before .before .before .before .before .before .before .before .before .before .before .before .before .before .pre .1) (size .result) (size .ensures .0 ∙ body-size-is (a .t1) (record-of run (a .task) .body) sizes cells) in
     let change = c .before .before .before .before .before .before .before .before .before .before .before .before .before .before .before .start-change in
     let calls = c .before .before .before .before .before .before .before .before .before .before .before .before .before .wrapping-add-u32 in
     let weight = c .before .before .before .before .before .before .before .before .before .before .before .before .wrapping-add-u322 in
-    let from = joined (a .t1) (onward (a .progress) (a .task) (change .result) (calls .result) (weight .result)) (now (a .memory)) (now (a .modes)) (now (a .order)) in
-    let begun = start-joined (a .t1) (a .progress) (now (a .memory)) (now (a .modes)) (now (a .order)) (a .task) (change .result) (calls .result) (weight .result) (calls .ensures) (weight .ensures) (change .ensures) in
+    let from = joined (a .t1) (a .weights) (onward (a .progress) (a .task) (change .result) (calls .result) (weight .result)) (now (a .memory)) (now (a .modes)) (now (a .order)) in
+    let begun = start-joined (a .t1) (a .weights) (a .progress) (now (a .memory)) (now (a .modes)) (now (a .order)) (a .task) (change .result) (calls .result) (weight .result) (calls .ensures) (weight .ensures) (change .ensures) in
     let l = c .before .before .before .before .before .before .before .before .before .before .before .loop in
-    let r = joined (a .t1) (l .p) (l .memory) (l .modes) (l .order) in
+    let r = joined (a .t1) (a .weights) (l .p) (l .memory) (l .modes) (l .order) in
     let size3 = c .before .before .before .before .before .row-size3 in
     let ending = c .before .before .before .end-change in
     let calls3 = c .before .wrapping-add-u325 in
     let weight3 = c .wrapping-add-u326 in
     whole-spent (a .bodies) (a .task) run from (c .before .before .before .before .before .before .before .before .before .before .before .before .before .before .before .before .before .before .before .before .before .before .before .if1 .left) limit room begun (l .steps) r (l .inv)
-    (joined (a .t1) (onward (l .p) (a .task) (ending .result) (calls3 .result) (weight3 .result)) (l .memory) (l .modes) (ending .last .0))
-    (end-joined (a .t1) (l .p) (l .memory) (l .modes) (l .order) (a .task) (ending .result) (calls3 .result) (weight3 .result) (calls3 .ensures) (weight3 .ensures) (ending .last .0)
+    (joined (a .t1) (a .weights) (onward (l .p) (a .task) (ending .result) (calls3 .result) (weight3 .result)) (l .memory) (l .modes) (ending .last .0))
+    (end-joined (a .t1) (a .weights) (l .p) (l .memory) (l .modes) (l .order) (a .task) (ending .result) (calls3 .result) (weight3 .result) (calls3 .ensures) (weight3 .ensures) (ending .last .0)
     (size3 .result) (size3 .ensures .0 ∙ body-size-is (a .t1) (record-of r (a .task) .body) sizes cells) (ending .ensures))
     (c .before .before .before .before .before .before .before .before .before .before .loop-test .left)
 

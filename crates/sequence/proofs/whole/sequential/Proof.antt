@@ -17,9 +17,9 @@ open-requires c κs = search needs
 -- src/whole.rt:93:9
 returns : tie.Need-returns
 returns c =
-    let a = c .before .before .before .before .before .before .args in
+    let a = c .before .before .before .before .before .before .before .args in
     let opened = c .before .before .before .«open» in
-    sequential-refused (now (a .list)) (now (a .memory)) (opened .result) (opened .ensures) (c .if1 .taken)
+    sequential-refused (now (a .list)) (now (a .memory)) (now (a .weights)) (opened .result) (opened .ensures) (c .if1 .taken)
 
 -- src/whole.rt:96:9
 body-count-requires : tie.Need-body-count-requires
@@ -32,12 +32,12 @@ run-whole-requires c κs = search needs
 -- src/whole.rt:86:1
 returns-2 : tie.Need-returns-2
 returns-2 c =
-    let a = c .before .before .before .before .before .before .before .before .before .before .before .before .before .before .before .before .before .args in
-    let opened = c .before .before .before .before .before .before .before .before .before .before .before .before .before .before .«open» in
+    let a = c .before .before .before .before .before .before .before .before .before .before .before .before .before .before .before .before .before .before .before .args in
+    let opened = c .before .before .before .before .before .before .before .before .before .before .before .before .before .before .before .«open» in
     let bodies = c .before .before .before .before .before .before .before .before .before .body-count in
     let done = c .before .run-whole in
-    sequential-made (now (a .list)) (now (a .memory)) (opened .result) (opened .ensures) (c .before .before .before .before .before .before .before .before .before .before .before .if1 .left) (bodies .result) (bodies .ensures)
-    (joined (opened .result .run .tables) (done .result) (done .last .1 .1 .0) (done .last .1 .1 .1 .0) (done .last .1 .1 .1 .1 .0)) (done .ensures)
+    sequential-made (now (a .list)) (now (a .memory)) (now (a .weights)) (opened .result) (opened .ensures) (c .before .before .before .before .before .before .before .before .before .before .before .before .if1 .left) (bodies .result) (bodies .ensures)
+    (joined (opened .result .run .tables) (opened .result .run .weights) (done .result) (done .last .1 .1 .0) (done .last .1 .1 .1 .0) (done .last .1 .1 .1 .1 .0)) (done .ensures)
 
 pub sequential-spec : {M : Type 1} → statement M
 sequential-spec =

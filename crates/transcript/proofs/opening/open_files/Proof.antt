@@ -1,10 +1,11 @@
--- The numbers of the library, then open.
+-- The numbers of the library and today's weights, then open.
 -- Assumes nothing.
 use mathlib.Core.Path.{sym}
 use native.Mathlib.Omega.{arith}
 use lib.ListN.{take}
 use lib.Seq.{length-take-le}
 use denote.Ref.{now}
+use Rattle.semantics.specs.Run.{fixed-weights}
 use Rattle.transcript.proofs.OpeningLaws.{opened-by}
 use borrow.Author.Needs.{needs}
 use Rattle.transcript.proofs.opening.open_files.Statement.{statement}
@@ -21,6 +22,9 @@ slice-aggregate-open c =
     let read = c .before .before .read-numbers in
     sym (length-take-le (read .result .count) (read .result .values) (omega (arith, read .ensures .whole, read .ensures .count)))
 
+todays-weights-requires : tie.Need-todays-weights-requires
+todays-weights-requires c κs = search needs
+
 open-requires : tie.Need-open-requires
 open-requires c κs = search needs
 
@@ -28,8 +32,9 @@ returns : tie.Need-returns
 returns c =
     let a = c .before .before .before .before .before .before .args in
     let read = c .before .before .before .read-numbers in
-    opened-by (now (a .jobs)) (now (a .numbers)) (take (read .result .count) (read .result .values)) (c .open .result) (read .ensures .values)
-    (c .open .ensures)
+    let today = c .before .before .todays-weights in
+    opened-by (now (a .jobs)) (now (a .numbers)) (take (read .result .count) (read .result .values)) (today .result) fixed-weights (c .open .result)
+    (read .ensures .values) (today .ensures) (c .open .ensures)
 
 pub open-files-spec : {M : Type 1} → statement M
 open-files-spec =

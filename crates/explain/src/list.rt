@@ -1,11 +1,11 @@
 // An accepted list in the text form: head, footprints, sheets; then its jobs, as comments.
 ghost use Prim.Native.Nat.{_<_};
-use crate::jobs::job_of;
-use crate::jobs::last_of;
 use crate::words::say;
 use crate::words::say_instruction;
 use crate::words::say_line;
 use crate::words::say_with;
+use finding::job_of;
+use finding::last_of;
 use listing::body_count;
 use listing::body_size;
 use listing::footprint_count;

@@ -1,22 +1,8 @@
 // Prints job lists in words, in the text form that the assembler reads back (docs/text-form.md). A refused list is told
-// with its refusal and byte. Below it stands the list layer alone.
+// with its refusal and byte. What it finds in a list stands in `finding`; below stands
+// the list layer alone.
 use tasklist::Checked;
 
-// A task (document 01: job) that a list can make: its number, body (sheet) and footprint, and the task and place that
-// make it; `child` is its number among the `children` of a fan, which are 0 for a spawn; `depth` is how many tasks stand
-// above it. The first task is made by none.
-pub struct Job {
-    pub number: usize,
-    pub body: usize,
-    pub footprint: usize,
-    pub spawner: usize,
-    pub place: usize,
-    pub child: usize,
-    pub children: usize,
-    pub depth: usize,
-}
-
-mod jobs;
 mod list;
 mod refused;
 mod words;

@@ -8,8 +8,8 @@ use Rattle.tasklist.specs.declared.Instruction.the-variants.{Const, Add, Sub, L
 use Rattle.tasklist.specs.declared.Tables.{Tables}
 use Rattle.tasklist.specs.TaskList.{body-of, instruction-of, total, adds}
 use Rattle.tasklist.specs.Tables.{list-of}
-use Rattle.explain.specs.declared.Job.{Job}
-use Rattle.explain.specs.Search.{first-from}
+use Rattle.finding.specs.declared.Job.{Job}
+use Rattle.finding.specs.Search.{first-from}
 
 -- "Job 0 runs sheet 0"
 abbrev pub first-job : Job

@@ -7,7 +7,7 @@ use mathlib.Core.Logic.{_⊎_, inl, inr}
 use native.Mathlib.Omega.{arith}
 use native.Mathlib.Numerals.{add-one}
 use native.Mathlib.Nat.{add-zero}
-use Rattle.explain.specs.Search.{first-from}
+use Rattle.finding.specs.Search.{first-from}
 
 -- one number of the search
 one-fails : (test : ℕ → Bool) (n k : ℕ) → test n ≡ false → first-from test n (suc k) ≡ first-from test (suc n) k

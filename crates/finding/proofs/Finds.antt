@@ -18,11 +18,11 @@ use Rattle.tasklist.specs.Tables.{list-of, capped, Holds}
 use Rattle.tasklist.specs.Accepted.{Accepted}
 use Rattle.tasklist.proofs.Guarantees.{spawn-names, fan-names}
 use Rattle.tasklist.proofs.CountLaws.{total-capped}
-use Rattle.explain.specs.declared.Job.{Job}
-use Rattle.explain.specs.Search.{first-from}
-use Rattle.explain.specs.Jobs.{first-job, number-at, fanned, made, place-of, holder, down, numbered}
-use Rattle.explain.proofs.FirstLaws.{first-keeps, Passes, first-passes}
-use Rattle.explain.proofs.JobLaws.{total-more, child-block}
+use Rattle.finding.specs.declared.Job.{Job}
+use Rattle.finding.specs.Search.{first-from}
+use Rattle.finding.specs.Jobs.{first-job, number-at, fanned, made, place-of, holder, down, numbered}
+use Rattle.finding.proofs.FirstLaws.{first-keeps, Passes, first-passes}
+use Rattle.finding.proofs.JobLaws.{total-more, child-block}
 
 -- sums of parts
 total-part : (f : Instruction → ℕ) (xs : List Instruction) (i : ℕ) → total f (take i xs) ≤ total f xs

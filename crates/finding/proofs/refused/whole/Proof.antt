@@ -5,11 +5,11 @@ use mathlib.Core.Bool.{not}
 use lib.Dec.{eqb}
 use Rattle.tasklist.specs.Answers.{checked}
 use denote.Ref.{now}
-use Rattle.explain.specs.Where.{whole-answer}
-use Rattle.explain.proofs.Shortest.{whole-none, whole-some}
+use Rattle.finding.specs.Where.{whole-answer}
+use Rattle.finding.proofs.Shortest.{whole-none, whole-some}
 use borrow.Author.Needs.{needs}
-use Rattle.explain.proofs.refused.whole.Statement.{statement}
-use Rattle.explain.proofs.refused.whole.Tie as tie
+use Rattle.finding.proofs.refused.whole.Statement.{statement}
+use Rattle.finding.proofs.refused.whole.Tie as tie
 
 returns : tie.Need-returns
 returns c = sym (whole-none (now (c .before .before .args .bytes)) (c .if1 .taken))

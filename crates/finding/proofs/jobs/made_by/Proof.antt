@@ -3,11 +3,11 @@
 use Prim.Native.Nat.{ℕ, _≤_}
 use mathlib.Core.Path.{_≡_, sym, ap, _∙_}
 use native.Mathlib.Omega.{arith}
-use Rattle.explain.specs.declared.Job.{Job}
-use Rattle.explain.specs.Jobs.{fanned, made}
+use Rattle.finding.specs.declared.Job.{Job}
+use Rattle.finding.specs.Jobs.{fanned, made}
 use borrow.Author.Needs.{needs}
-use Rattle.explain.proofs.jobs.made_by.Statement.{statement}
-use Rattle.explain.proofs.jobs.made_by.Tie as tie
+use Rattle.finding.proofs.jobs.made_by.Statement.{statement}
+use Rattle.finding.proofs.jobs.made_by.Tie as tie
 
 enum-told : tie.Need-enum-told
 enum-told c = search needs

@@ -5,8 +5,8 @@ use mathlib.Core.Path.{_≡_, sym, ap, _∙_}
 use native.Mathlib.Omega.{arith}
 use native.Mathlib.Nat.{div-zero}
 use borrow.Author.Needs.{needs}
-use Rattle.explain.proofs.jobs.blocks_in.Statement.{statement}
-use Rattle.explain.proofs.jobs.blocks_in.Tie as tie
+use Rattle.finding.proofs.jobs.blocks_in.Statement.{statement}
+use Rattle.finding.proofs.jobs.blocks_in.Tie as tie
 
 div-result : tie.Need-div-result
 div-result c = search needs

@@ -8,7 +8,7 @@ use lib.Dec.{eqb}
 use lib.ListN.{length, take}
 use Rattle.tasklist.specs.Decode.{decode}
 use Rattle.tasklist.specs.Answers.{Answer, refuses, gives, check-answer}
-use Rattle.explain.specs.Search.{first-from}
+use Rattle.finding.specs.Search.{first-from}
 
 -- an answer other than refusal 1
 abbrev pub whole-answer : Answer → Bool

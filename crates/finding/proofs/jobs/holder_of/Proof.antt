@@ -7,10 +7,10 @@ use lib.ListN.{length}
 use Rattle.tasklist.specs.TaskList.{body-of}
 use Rattle.tasklist.specs.Tables.{list-of}
 use Rattle.tasklist.proofs.PlaceLaws.{body-most}
-use Rattle.explain.proofs.JobLaws.{Passed, passed-none, passed-next, passed-found, passed-all}
+use Rattle.finding.proofs.JobLaws.{Passed, passed-none, passed-next, passed-found, passed-all}
 use borrow.Author.Needs.{needs}
-use Rattle.explain.proofs.jobs.holder_of.Statement.{statement}
-use Rattle.explain.proofs.jobs.holder_of.Tie as tie
+use Rattle.finding.proofs.jobs.holder_of.Statement.{statement}
+use Rattle.finding.proofs.jobs.holder_of.Tie as tie
 
 abbrev Inv-loop : tie.InvT-loop
 Inv-loop job k depth tables body size n₀ i₀ n i = (i ≤ size) × (k < 128) × (size ≡ length (body-of (list-of tables) (job .body))) × (size ≤ 32) × (length (tables .counts) ≡ 32) × Passed tables job k n i

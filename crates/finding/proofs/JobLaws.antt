@@ -14,10 +14,10 @@ use Rattle.tasklist.specs.declared.Instruction.{Instruction}
 use Rattle.tasklist.specs.declared.Tables.{Tables}
 use Rattle.tasklist.specs.TaskList.{body-of, instruction-of, blank-instruction, total, adds}
 use Rattle.tasklist.specs.Tables.{list-of}
-use Rattle.explain.specs.declared.Job.{Job}
-use Rattle.explain.specs.Search.{first-from}
-use Rattle.explain.specs.Jobs.{first-job, number-at, fanned, made, place-of, holder, down, numbered}
-use Rattle.explain.proofs.FirstLaws.{Failed, failed-none, failed-next, failed-passes, failed-all}
+use Rattle.finding.specs.declared.Job.{Job}
+use Rattle.finding.specs.Search.{first-from}
+use Rattle.finding.specs.Jobs.{first-job, number-at, fanned, made, place-of, holder, down, numbered}
+use Rattle.finding.proofs.FirstLaws.{Failed, failed-none, failed-next, failed-passes, failed-all}
 
 -- a sum with one item more
 pub total-more : (f : Instruction → ℕ) (xs : List Instruction) (i : ℕ) (d : Instruction) → i < length xs

@@ -18,9 +18,9 @@ use Rattle.tasklist.specs.Decode.{head-numbers, head, is-line, line, footprint,
 use Rattle.tasklist.specs.declared.Header.{Header}
 use Rattle.tasklist.specs.TaskList.{TaskList, task-count}
 use Rattle.tasklist.specs.Answers.{check-answer}
-use Rattle.explain.specs.Search.{first-from}
-use Rattle.explain.specs.Where.{whole-answer, is-whole, shortest-whole}
-use Rattle.explain.proofs.FirstLaws.{first-ends, first-before}
+use Rattle.finding.specs.Search.{first-from}
+use Rattle.finding.specs.Where.{whole-answer, is-whole, shortest-whole}
+use Rattle.finding.proofs.FirstLaws.{first-ends, first-before}
 
 -- the same with the bytes c behind
 abbrev Longer : {A : Type 0} → List ℕ → Taken A → Taken A → Type 0

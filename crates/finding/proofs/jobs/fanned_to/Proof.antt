@@ -4,10 +4,10 @@ use Prim.Native.Nat.{ℕ, _-_, _*_, _≤_}
 use mathlib.Core.Path.{_≡_, ap, _∙_, subst, sym}
 use native.Mathlib.Omega.{arith}
 use native.Mathlib.Nat.{div-mul-le-self}
-use Rattle.explain.proofs.JobLaws.{fanned-is}
+use Rattle.finding.proofs.JobLaws.{fanned-is}
 use borrow.Author.Needs.{needs}
-use Rattle.explain.proofs.jobs.fanned_to.Statement.{statement}
-use Rattle.explain.proofs.jobs.fanned_to.Tie as tie
+use Rattle.finding.proofs.jobs.fanned_to.Statement.{statement}
+use Rattle.finding.proofs.jobs.fanned_to.Tie as tie
 
 task-count-requires : tie.Need-task-count-requires
 task-count-requires c κs = search needs

@@ -6,11 +6,11 @@ use native.Mathlib.Omega.{arith}
 use lib.ListN.{length, take}
 use lib.Seq.{length-take-le}
 use denote.Ref.{now}
-use Rattle.explain.specs.Where.{is-whole, shortest-whole}
-use Rattle.explain.proofs.FirstLaws.{Failed, failed-none, failed-next, failed-passes, failed-all}
+use Rattle.finding.specs.Where.{is-whole, shortest-whole}
+use Rattle.finding.proofs.FirstLaws.{Failed, failed-none, failed-next, failed-passes, failed-all}
 use borrow.Author.Needs.{needs}
-use Rattle.explain.proofs.refused.refused_end.Statement.{statement}
-use Rattle.explain.proofs.refused.refused_end.Tie as tie
+use Rattle.finding.proofs.refused.refused_end.Statement.{statement}
+use Rattle.finding.proofs.refused.refused_end.Tie as tie
 
 abbrev Inv-loop : tie.InvT-loop
 Inv-loop bytes n₀ n = (n ≤ length bytes) × Failed (λ i. is-whole (take i bytes)) (length bytes) n

@@ -2,7 +2,7 @@
 ghost use Prim.Native.Nat.{_+_, _-_, _/_, _≤_, _<_};
 ghost use mathlib.Core.Path.{_≡_};
 ghost use lib.ListN.{getD};
-ghost use Rattle.explain.specs.Jobs.{first-job, child-of, fanned, made, holder, numbered};
+ghost use Rattle.finding.specs.Jobs.{first-job, child-of, fanned, made, holder, numbered};
 use crate::Job;
 use listing::body_size;
 use listing::instruction_at;

@@ -3,10 +3,10 @@
 use Prim.Native.Nat.{_-_, _≤_, _<_}
 use mathlib.Core.Path.{sym, subst}
 use native.Mathlib.Omega.{arith}
-use Rattle.explain.proofs.JobLaws.{Reached, reached-none, reached-below, reached-it, reached-all}
+use Rattle.finding.proofs.JobLaws.{Reached, reached-none, reached-below, reached-it, reached-all}
 use borrow.Author.Needs.{needs}
-use Rattle.explain.proofs.jobs.job_of.Statement.{statement}
-use Rattle.explain.proofs.jobs.job_of.Tie as tie
+use Rattle.finding.proofs.jobs.job_of.Statement.{statement}
+use Rattle.finding.proofs.jobs.job_of.Tie as tie
 
 abbrev Inv-loop : tie.InvT-loop
 Inv-loop tables k job₀ depth₀ job depth = (depth ≤ 32) × (k < 128) × Reached tables k depth job

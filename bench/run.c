@@ -19,7 +19,7 @@ uint32_t bench_lent(const uint8_t *list, size_t bytes, const uint32_t *memory, s
 
 uint32_t fast_check(const uint8_t *list, size_t bytes);
 size_t fast_run_size(void);
-uint32_t fast_hand_run(const uint8_t *list, size_t bytes, const uint32_t *memory, size_t numbers, void *run);
+uint32_t fast_hand_run(const uint8_t *list, size_t bytes, const uint32_t *memory, size_t numbers, const uint16_t *table, size_t weights, void *run);
 uint32_t fast_calls(const void *run);
 uint32_t fast_entry(const void *run, size_t entry);
 
@@ -112,12 +112,16 @@ static uint32_t whole(uint32_t task, int depth) {
 enum { TASKS = 127, CALLS = 380, PIECE = 256 };
 static struct list big, small;
 static const uint32_t memory[64] = {5, 7};
+// Today's weights: start, end, codes 0 to 9; over the C boundary as bytes.
+enum { WEIGHTS = 12 };
+static const uint16_t weights[WEIGHTS] = {5, 2, 1, 1, 1, 1, 3, 4, 1, 8, 1, 8};
+static const uint8_t weight_bytes[2 * WEIGHTS] = {5, 0, 2, 0, 1, 0, 1, 0, 1, 0, 1, 0, 3, 0, 4, 0, 1, 0, 8, 0, 1, 0, 8, 0};
 static volatile uint32_t sink;
 
 static void check_fast(void) { sink = fast_check(big.bytes, big.length); }
 static void check_proved(void) { sink = preview_check(big.bytes, big.length); }
 static void opened(void) { sink = bench_open(small.bytes, small.length, memory, 2); }
-static void hand_fast(void) { sink = fast_hand_run(small.bytes, small.length, memory, 2, run); }
+static void hand_fast(void) { sink = fast_hand_run(small.bytes, small.length, memory, 2, weights, WEIGHTS, run); }
 static void hand_proved(void) { sink = bench_sequential(small.bytes, small.length, memory, 2); }
 static void replayed(void) { sink = bench_replay(small.bytes, small.length, memory, 2, kinds, PIECE, tasks, PIECE); }
 static void lent(void) { sink = bench_lent(small.bytes, small.length, memory, 2, input, 2 * PIECE); }
@@ -151,8 +155,8 @@ static int same(const uint8_t *list, size_t length) {
     uint8_t library[256], result[256];
     for (size_t i = 0; i < entries; i++) numbers[i] = drawn(8) ? drawn(64) : drawn(1u << 31);
     memcpy(library, numbers, sizeof numbers);
-    uint32_t answer = preview_hand_run(list, length, library, 4 * entries, result, sizeof result);
-    if (fast_hand_run(list, length, numbers, entries, run) != answer) return 0;
+    uint32_t answer = preview_hand_run(list, length, library, 4 * entries, weight_bytes, sizeof weight_bytes, result, sizeof result);
+    if (fast_hand_run(list, length, numbers, entries, weights, WEIGHTS, run) != answer) return 0;
     if (answer != 0) return 1;
     for (size_t i = 0; i < entries; i++) {
         uint32_t entry;

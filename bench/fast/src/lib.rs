@@ -40,9 +40,12 @@ pub unsafe extern "C" fn fast_hand_run(
     list_len: usize,
     memory: *const u32,
     memory_len: usize,
+    table: *const u16,
+    table_len: usize,
     run: *mut Run,
 ) -> u32 {
-    run::hand_run(lent(list, list_len), lent(memory, memory_len), &mut *run)
+    let (list, memory) = (lent(list, list_len), lent(memory, memory_len));
+    run::hand_run(list, memory, lent(table, table_len), &mut *run)
 }
 
 /// The calls of a run.

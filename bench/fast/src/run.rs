@@ -22,9 +22,6 @@ pub struct Run {
     pub weight: u32,
 }
 
-/// "codes 0 to 8: 1, 1, 1, 1, 3, 4, 1, 8, 1"; a fan's for each child
-const WEIGHTS: [u32; 10] = [1, 1, 1, 1, 3, 4, 1, 8, 1, 8];
-
 const NEVER: Record = Record {
     state: 0,
     sheet: 0,
@@ -41,9 +38,11 @@ struct Job<'a> {
     index: Index,
     counts: [u32; 32],
     locations: usize,
+    /// "start, end, then codes 0 to 9, code 9's per child"
+    table: &'a [u16; 12],
 }
 
-pub fn hand_run(file: &[u8], memory: &[u32], run: &mut Run) -> u32 {
+pub fn hand_run(file: &[u8], memory: &[u32], table: &[u16], run: &mut Run) -> u32 {
     let list = records(file);
     let index = match index(list) {
         Ok(index) => index,
@@ -52,6 +51,12 @@ pub fn hand_run(file: &[u8], memory: &[u32], run: &mut Run) -> u32 {
     let locations = list[2] as usize;
     if memory.len() != locations {
         return 128 + 8;
+    }
+    let Ok(table) = <&[u16; 12]>::try_from(table) else {
+        return 128 + 21;
+    };
+    if !table.iter().all(|number| (1..=1000).contains(number)) {
+        return 128 + 22;
     }
     run.memory[..locations].copy_from_slice(memory);
     run.memory[locations..].fill(0);
@@ -65,6 +70,7 @@ pub fn hand_run(file: &[u8], memory: &[u32], run: &mut Run) -> u32 {
         index,
         counts: [0; 32],
         locations,
+        table,
     };
     job.count();
     job.whole(run, 0, 0, [0; 4]);
@@ -169,7 +175,8 @@ impl Job<'_> {
         let mut registers = given;
         let mut next = task as u32 + 1;
         let mut place = 0;
-        let (mut done, mut weight, mut fault) = (0, 5 + 2, 0);
+        let [start, end, codes @ ..] = self.table;
+        let (mut done, mut weight, mut fault) = (0, *start as u32 + *end as u32, 0);
         let count = self.index.sheets[sheet].1 as usize;
         while place < count {
             let w = self.instruction(sheet, place);
@@ -177,7 +184,7 @@ impl Job<'_> {
             let (ra, rb) = (registers[a as usize & 3], registers[b as usize & 3]);
             let rc = registers[c as usize & 3];
             done += 1;
-            weight += WEIGHTS[code as usize % 10] * if code == 9 { c as u32 } else { 1 };
+            weight += codes[code as usize % 10] as u32 * if code == 9 { c as u32 } else { 1 };
             let mut passed = 0;
             match code {
                 0 => registers[a as usize & 3] = b as u32 + 256 * c as u32,

@@ -2,20 +2,30 @@
 
 use std::time::Duration;
 
+use second::cases::EXAMPLE_P;
 use second::cases::{alterations, damaged_list, hex, library_bytes, list_case, random_library};
-use second::cases::{fan_tree, random_list, too_many_tasks, EXAMPLE_P};
+use second::cases::{bad_table, fan_tree, random_list, random_table, table_bytes, too_many_tasks};
 use second::list::decode_records;
 use second::named::{deepest_list, fan_of_strengths, longest_list};
 use second::rng::Rng;
-use second::{encode, preview_check, preview_hand_run};
+use second::{encode, preview_check, preview_hand_run, TODAY};
 
 use crate::shrink::{less_entries, shrink, smaller_bytes, smaller_lists};
 use crate::{has_fan, refusal_words};
 
 /// preview_check(list, list_len)
 pub type Check = unsafe extern "C" fn(*const u8, usize) -> u32;
-/// preview_hand_run(list, list_len, library, library_len, result, result_len)
-pub type HandRun = unsafe extern "C" fn(*const u8, usize, *const u8, usize, *mut u8, usize) -> u32;
+/// preview_hand_run(list, list_len, library, library_len, table, table_len, result, result_len)
+pub type HandRun = unsafe extern "C" fn(
+    *const u8,
+    usize,
+    *const u8,
+    usize,
+    *const u8,
+    usize,
+    *mut u8,
+    usize,
+) -> u32;
 
 /// What is compared. Both must be safe to call with any slices.
 #[derive(Clone, Copy)]
@@ -36,6 +46,8 @@ pub struct Lent {
 pub struct Case {
     pub list: Lent,
     pub library: Lent,
+    /// The weights (#105).
+    pub table: Lent,
     /// The length of the result slice.
     pub result: usize,
     /// How far the slices stand from an even place, 0 to 7.
@@ -123,6 +135,7 @@ pub fn answers_of(functions: &Functions, case: &Case) -> Answers {
     }
     let mut list = Guarded::of(&case.list, case.shift);
     let mut library = Guarded::of(&case.library, case.shift);
+    let mut table = Guarded::of(&case.table, case.shift);
     let fill: Vec<u8> = (0..case.result).map(filling).collect();
     let mut result = Guarded::new(&fill, &[], case.shift);
     let hand_run = unsafe {
@@ -131,6 +144,8 @@ pub fn answers_of(functions: &Functions, case: &Case) -> Answers {
             list.length,
             library.pointer(),
             library.length,
+            table.pointer(),
+            table.length,
             result.pointer(),
             result.length,
         )
@@ -140,6 +155,9 @@ pub fn answers_of(functions: &Functions, case: &Case) -> Answers {
     }
     if !library.unchanged() {
         spoiled.push("library");
+    }
+    if !table.unchanged() {
+        spoiled.push("table");
     }
     if !result.unchanged_around() {
         spoiled.push("beside the result");
@@ -155,7 +173,12 @@ pub fn answers_of(functions: &Functions, case: &Case) -> Answers {
 /// What the second implementation gives.
 pub fn answers_of_second(case: &Case) -> Answers {
     let mut result: Vec<u8> = (0..case.result).map(filling).collect();
-    let hand_run = preview_hand_run(&case.list.bytes, &case.library.bytes, &mut result);
+    let hand_run = preview_hand_run(
+        &case.list.bytes,
+        &case.library.bytes,
+        &case.table.bytes,
+        &mut result,
+    );
     Answers {
         check: preview_check(&case.list.bytes),
         hand_run,
@@ -259,7 +282,35 @@ pub fn lists(seed: u64) -> impl Iterator<Item = Lent> {
         .chain(random)
 }
 
-/// A library and a result slice for the list: mostly those that fit.
+/// #105: today's numbers, others that are good, some out of range, or a wrong length.
+fn table_of(rng: &mut Rng) -> Lent {
+    let mut bytes = match rng.below(10) {
+        0..=4 => table_bytes(&TODAY),
+        5..=8 => table_bytes(&random_table(rng)),
+        _ => table_bytes(&bad_table(rng)),
+    };
+    if !rng.percent(10) {
+        return whole(bytes);
+    }
+    let fitting = bytes.len();
+    // A longer table goes on with good numbers, or not.
+    let more = rng.pick(&[0, 1]);
+    bytes.extend([1, more].repeat(8));
+    let length = match rng.below(6) {
+        0 => rng.below(bytes.len() + 1),
+        1 => fitting / 2,
+        2 => rng.pick(&[0, 1, 2]),
+        3 => fitting + rng.pick(&[1, 2, 6]),
+        _ => fitting - rng.pick(&[1, 2]),
+    };
+    let mut table = cut(&bytes, length);
+    if rng.percent(50) {
+        table.behind.clear();
+    }
+    table
+}
+
+/// A library, a table and a result slice for the list: mostly those that fit.
 fn case_of(rng: &mut Rng, list: Lent) -> Case {
     let entries = match decode_records(&list.bytes) {
         Ok(list) => list.locations,
@@ -291,13 +342,52 @@ fn case_of(rng: &mut Rng, list: Lent) -> Case {
     Case {
         list,
         library,
+        table: table_of(rng),
         result,
         shift: rng.below(8),
     }
 }
 
+/// P under tables of each length up to 32 bytes, and under such with each number in turn at the limits and
+/// beyond them; with a library and a result slice that fit, then with one that doesn't.
+fn table_cases() -> Vec<Case> {
+    let mut tables: Vec<Lent> = (0..=32)
+        .map(|length| cut(&[1, 0].repeat(16), length))
+        .collect();
+    for place in 0..TODAY.len() {
+        for number in [0, 1, 1000, 1001, 65535] {
+            let mut table = TODAY;
+            table[place] = number;
+            tables.push(whole(table_bytes(&table)));
+        }
+    }
+    let mut cases = Vec::new();
+    for (library, result) in [(8, 8), (7, 8), (8, 7)] {
+        for (shift, table) in tables.iter().enumerate() {
+            cases.push(Case {
+                list: whole(EXAMPLE_P.to_vec()),
+                library: cut(&library_bytes(&[5, 7]), library),
+                table: table.clone(),
+                result,
+                shift: shift % 8,
+            });
+        }
+    }
+    cases
+}
+
+/// Cases without end: those of tables, then one for each of the lists.
+fn cases(seed: u64) -> impl Iterator<Item = Case> {
+    let mut rng = Rng::new(!seed);
+    let of_lists = lists(seed).map(move |list| case_of(&mut rng, list));
+    table_cases().into_iter().chain(of_lists)
+}
+
 // ---------------------------------------------------------------------------------------------
 // The comparison
+
+/// Refusals are below this.
+const REFUSALS: usize = 23;
 
 /// How often each answer was met, acceptance at 0.
 #[derive(Clone, Debug, Default)]
@@ -307,8 +397,10 @@ pub struct Met {
     pub empty: u64,
     /// Lists with a fan that the hand run accepts.
     pub fans: u64,
-    pub check: [u64; 18],
-    pub hand_run: [u64; 18],
+    /// Hand runs accepted with another table than today's numbers.
+    pub own_tables: u64,
+    pub check: [u64; REFUSALS],
+    pub hand_run: [u64; REFUSALS],
     /// On how many the two differ, and the smallest case found.
     pub different: usize,
     pub smallest: Option<Case>,
@@ -319,16 +411,18 @@ impl Met {
         self.lists += 1;
         self.empty += (case.list.bytes.is_empty() && answers.hand_run == 0) as u64;
         self.fans += (answers.hand_run == 0 && has_fan(&case.list.bytes)) as u64;
+        let own_table = case.table.bytes != table_bytes(&TODAY);
+        self.own_tables += (answers.hand_run == 0 && own_table) as u64;
         self.check[answers.check.saturating_sub(128) as usize] += 1;
         self.hand_run[answers.hand_run.saturating_sub(128) as usize] += 1;
     }
 
-    /// The refusals that were not met: 1 to 7 by check and hand run, 8 and 17 by the hand run.
+    /// The refusals that were not met: 1 to 7 by check and hand run, 8, 17, 21 and 22 by the hand run.
     pub fn missing(&self) -> Vec<usize> {
-        (1..18)
+        (1..REFUSALS)
             .filter(|refusal| match refusal {
                 1..=7 => self.check[*refusal] == 0 || self.hand_run[*refusal] == 0,
-                8 | 17 => self.hand_run[*refusal] == 0,
+                8 | 17 | 21 | 22 => self.hand_run[*refusal] == 0,
                 _ => false,
             })
             .collect()
@@ -336,31 +430,30 @@ impl Met {
 
     pub fn words(&self) -> String {
         format!(
-            "check accepts {}, refuses {}; the hand run accepts {} ({} of no bytes, {} with fans), \
-             refuses {}",
+            "check accepts {}, refuses {}; the hand run accepts {} ({} of no bytes, {} with fans, {} \
+             with other weights than today's), refuses {}",
             self.check[0],
             refusal_words_of(&self.check),
             self.hand_run[0],
             self.empty,
             self.fans,
+            self.own_tables,
             refusal_words_of(&self.hand_run)
         )
     }
 }
 
 /// Acceptance is no refusal.
-fn refusal_words_of(counts: &[u64; 18]) -> String {
+fn refusal_words_of(counts: &[u64; REFUSALS]) -> String {
     let mut counts = *counts;
     counts[0] = 0;
     refusal_words(&counts)
 }
 
-/// Compares `count` lists.
+/// Compares `count` cases.
 pub fn compare(functions: &Functions, count: usize, seed: u64) -> Met {
-    let mut rng = Rng::new(!seed);
     let mut met = Met::default();
-    for list in lists(seed).take(count) {
-        let case = case_of(&mut rng, list);
+    for case in cases(seed).take(count) {
         let expected = answers_of_second(&case);
         met.count(&case, &expected);
         if answers_of(functions, &case) != expected {
@@ -384,7 +477,8 @@ fn size(case: &Case) -> usize {
     case.list.bytes.len() + case.library.bytes.len() + case.result
 }
 
-/// Cases with less behind the slices, a smaller list, a smaller library or a shorter result.
+/// Cases with less behind the slices, a simpler table, a smaller list, a smaller library or a shorter
+/// result.
 fn smaller_cases(case: &Case) -> impl Iterator<Item = Case> {
     let mut plain = Vec::new();
     if !case.list.behind.is_empty() {
@@ -395,6 +489,16 @@ fn smaller_cases(case: &Case) -> impl Iterator<Item = Case> {
     if !case.library.behind.is_empty() {
         let mut smaller = case.clone();
         smaller.library.behind.clear();
+        plain.push(smaller);
+    }
+    if !case.table.behind.is_empty() {
+        let mut smaller = case.clone();
+        smaller.table.behind.clear();
+        plain.push(smaller);
+    }
+    for table in simpler_tables(&case.table.bytes) {
+        let mut smaller = case.clone();
+        smaller.table.bytes = table;
         plain.push(smaller);
     }
     if case.shift > 0 {
@@ -431,6 +535,31 @@ fn smaller_cases(case: &Case) -> impl Iterator<Item = Case> {
         }))
 }
 
+/// Today's numbers; else, where the length is theirs, one more of them, or a shorter table.
+fn simpler_tables(bytes: &[u8]) -> Vec<Vec<u8>> {
+    let today = table_bytes(&TODAY);
+    if bytes == today {
+        return Vec::new();
+    }
+    let mut tables = vec![today.clone()];
+    if bytes.len() != today.len() {
+        for length in [0, bytes.len() / 2, bytes.len().saturating_sub(1)] {
+            if length < bytes.len() {
+                tables.push(bytes[..length].to_vec());
+            }
+        }
+        return tables;
+    }
+    for place in (0..today.len()).step_by(2) {
+        let mut table = bytes.to_vec();
+        table[place..place + 2].copy_from_slice(&today[place..place + 2]);
+        if table != bytes {
+            tables.push(table);
+        }
+    }
+    tables
+}
+
 /// The case and both answers, in lines.
 pub fn describe(functions: &Functions, case: &Case) -> String {
     let ours = answers_of(functions, case);
@@ -442,6 +571,10 @@ pub fn describe(functions: &Functions, case: &Case) -> String {
     text.push_str(&format!("library {}\n", hex(&case.library.bytes)));
     if !case.library.behind.is_empty() {
         text.push_str(&format!("behind it {}\n", hex(&case.library.behind)));
+    }
+    text.push_str(&format!("table {}\n", hex(&case.table.bytes)));
+    if !case.table.behind.is_empty() {
+        text.push_str(&format!("behind it {}\n", hex(&case.table.behind)));
     }
     text.push_str(&format!(
         "result slice of {} bytes, slices {} bytes from an even place\n",
@@ -479,11 +612,41 @@ mod tests {
         list_len: usize,
         library: *const u8,
         library_len: usize,
+        table: *const u8,
+        table_len: usize,
         result: *mut u8,
         result_len: usize,
     ) -> u32 {
         let result = std::slice::from_raw_parts_mut(result, result_len);
-        preview_hand_run(slice(list, list_len), slice(library, library_len), result)
+        let (list, library) = (slice(list, list_len), slice(library, library_len));
+        preview_hand_run(list, library, slice(table, table_len), result)
+    }
+
+    /// Looks at the table before the library.
+    unsafe extern "C" fn table_first(
+        list: *const u8,
+        list_len: usize,
+        library: *const u8,
+        library_len: usize,
+        table: *const u8,
+        table_len: usize,
+        result: *mut u8,
+        result_len: usize,
+    ) -> u32 {
+        let answer = hand_run(
+            list,
+            list_len,
+            library,
+            library_len,
+            table,
+            table_len,
+            result,
+            result_len,
+        );
+        if answer == 136 && table_len != 24 {
+            return 149;
+        }
+        answer
     }
 
     /// Takes one byte more than it was lent, where the list is cut.
@@ -535,32 +698,58 @@ mod tests {
 
     /// Hand runs that do something wrong behind the right one.
     macro_rules! wrong_hand_run {
-        ($name:ident, |$list:ident, $library:ident, $result:ident, $length:ident, $answer:ident| $wrong:expr) => {
+        ($name:ident, |$list:ident, $library:ident, $table:ident, $result:ident, $length:ident, $answer:ident| $wrong:expr) => {
             unsafe extern "C" fn $name(
                 $list: *const u8,
                 list_len: usize,
                 $library: *const u8,
                 library_len: usize,
+                $table: *const u8,
+                table_len: usize,
                 $result: *mut u8,
                 $length: usize,
             ) -> u32 {
-                let $answer = hand_run($list, list_len, $library, library_len, $result, $length);
+                let $answer = hand_run(
+                    $list,
+                    list_len,
+                    $library,
+                    library_len,
+                    $table,
+                    table_len,
+                    $result,
+                    $length,
+                );
                 $wrong
             }
         };
     }
 
-    wrong_hand_run!(writes_behind, |_list, _library, result, length, answer| {
+    wrong_hand_run!(writes_behind, |_list,
+                                    _library,
+                                    _table,
+                                    result,
+                                    length,
+                                    answer| {
         if answer == 0 {
             *result.add(length) = 0;
         }
         answer
     });
-    wrong_hand_run!(writes_before, |_list, library, _result, _length, answer| {
+    wrong_hand_run!(writes_before, |_list,
+                                    library,
+                                    _table,
+                                    _result,
+                                    _length,
+                                    answer| {
         *(library as *mut u8).sub(1) = 1;
         answer
     });
-    wrong_hand_run!(writes_more, |list, _library, result, length, answer| {
+    wrong_hand_run!(writes_more, |list,
+                                  _library,
+                                  _table,
+                                  result,
+                                  length,
+                                  answer| {
         let named = 4 * *list.add(2) as usize;
         if answer == 0 && length > named {
             *result.add(named) = 1;
@@ -569,34 +758,89 @@ mod tests {
     });
     wrong_hand_run!(
         writes_on_refusal,
-        |_list, _library, result, length, answer| {
+        |_list, _library, _table, result, length, answer| {
             if answer == 145 && length > 0 {
                 *result = 1;
             }
             answer
         }
     );
-    wrong_hand_run!(wrong_entry, |_list, _library, result, _length, answer| {
+    wrong_hand_run!(wrong_entry, |_list,
+                                  _library,
+                                  _table,
+                                  result,
+                                  _length,
+                                  answer| {
         if answer == 0 && *result == 9 {
             *result = 8;
         }
         answer
     });
-    wrong_hand_run!(no_17, |_list, _library, _result, _length, answer| {
+    wrong_hand_run!(no_17, |_list,
+                            _library,
+                            _table,
+                            _result,
+                            _length,
+                            answer| {
         if answer == 145 {
             0
         } else {
             answer
         }
     });
+    wrong_hand_run!(refuses_1000, |_list,
+                                   _library,
+                                   table,
+                                   _result,
+                                   _length,
+                                   answer| {
+        if answer == 0 && *table.add(22) == 0xE8 && *table.add(23) == 3 {
+            150
+        } else {
+            answer
+        }
+    });
+    /// Tests all numbers but the last.
+    unsafe fn first_numbers_are_good(table: *const u8) -> bool {
+        let mut numbers = slice(table, 22).chunks(2);
+        numbers.all(|bytes| (1..=1000).contains(&u16::from_le_bytes([bytes[0], bytes[1]])))
+    }
+    wrong_hand_run!(
+        no_22_in_the_last,
+        |_list, _library, table, _result, _length, answer| {
+            if answer == 150 && first_numbers_are_good(table) {
+                0
+            } else {
+                answer
+            }
+        }
+    );
+    wrong_hand_run!(
+        short_before_table,
+        |_list, _library, _table, _result, length, answer| {
+            if answer == 150 && length < 8 {
+                145
+            } else {
+                answer
+            }
+        }
+    );
+    wrong_hand_run!(
+        writes_in_the_table,
+        |_list, _library, table, _result, _length, answer| {
+            *(table as *mut u8) ^= 1;
+            answer
+        }
+    );
 
     #[test]
     fn the_second_implementation_agrees_with_itself() {
         let met = compare(&Functions { check, hand_run }, 3000, 1);
         assert_eq!((met.lists, met.different), (3000, 0));
         assert!(met.missing().is_empty(), "{}", met.words());
-        assert!(met.check[0] > 100 && met.hand_run[0] > 100 && met.empty > 10);
-        assert!(met.fans > 20, "{}", met.words());
+        assert!(met.check[0] > 100 && met.hand_run[0] > 100 && met.empty > 5);
+        assert!(met.hand_run[21] > 30 && met.hand_run[22] > 30);
+        assert!(met.fans > 20 && met.own_tables > 40, "{}", met.words());
     }
 
     #[test]
@@ -623,6 +867,23 @@ mod tests {
             (with_hand_run(writes_on_refusal), 13, "hand run 145"),
             (with_hand_run(wrong_entry), 36, "result 08"),
             (with_hand_run(no_17), 12, "hand run 145"),
+            (
+                with_hand_run(table_first),
+                8,
+                "second: check 1, hand run 136",
+            ),
+            (
+                with_hand_run(refuses_1000),
+                8,
+                "table 05000200010001000100010003000400010008000100e803",
+            ),
+            (
+                with_hand_run(no_22_in_the_last),
+                8,
+                "second: check 1, hand run 150",
+            ),
+            (with_hand_run(short_before_table), 8, "hand run 150"),
+            (with_hand_run(writes_in_the_table), 0, "spoiled: table"),
         ] {
             let met = compare(&functions, 1000, 1);
             let case = met.smallest.unwrap();

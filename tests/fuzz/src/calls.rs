@@ -1,7 +1,7 @@
 //! Target `calls`: a list, a library and calls; every answer and the whole run after the last call are compared.
 
 use measured::coordinator::call;
-use measured::run::{open, Run};
+use measured::run::{open, Run, TODAY};
 use second::cases::hex;
 
 use crate::lent::{differ, hash, Lent};
@@ -9,7 +9,7 @@ use crate::parts::{call_of, Parts};
 use crate::tally;
 
 extern "C" {
-    /// Opens a run and makes the calls: 0 start, 1 step, 2 end. Gives 0, or 128 plus the refusal of open. Writes each call's
+    /// Opens a run, under today's numbers, and makes the calls: 0 start, 1 step, 2 end. Gives 0, or 128 plus the refusal of open. Writes each call's
     /// answer (0, its refusal, 18 for another kind), then the run, as `put_run` below does.
     fn fuzz_replay(
         list: *const u8,
@@ -52,7 +52,7 @@ fn put_run(out: &mut Vec<u32>, run: &Run) {
 
 /// What the second implementation gives and writes.
 fn second_replay(list: &[u8], memory: &[u32], calls: &[(u8, u32)]) -> (u32, Vec<u32>) {
-    let mut run = match open(list, memory) {
+    let mut run = match open(list, memory, &TODAY) {
         Ok(run) => run,
         Err(refusal) => return (128 + refusal, Vec::new()),
     };

@@ -4,9 +4,10 @@
 use std::fs;
 use std::path::Path;
 
-use second::cases::{library_bytes, list_case, run_case};
+use second::cases::{library_bytes, list_case, run_case, table_bytes};
 use second::named::{longest_list, named_cases};
 use second::rng::Rng;
+use second::TODAY;
 
 #[allow(dead_code)]
 mod parts;
@@ -83,6 +84,7 @@ fn main() {
     });
     for (number, case) in cases.iter_mut().enumerate() {
         case.calls.truncate(MOST);
+        case.table = table_bytes(&TODAY);
         case.lengths = if number % 8 == 0 {
             number as u8
         } else {

@@ -1,11 +1,12 @@
 //! Changes that know what a list and its calls are, so that most lists stay accepted, beside the fuzzer's own. The fuzzer makes
 //! up to five changes on end, so that its own must be the fewer.
 
-use second::cases::{library_bytes, list_case, next_call, random_library, random_list, STRATEGIES};
+use second::cases::{bad_table, library_bytes, list_case, next_call, random_library, random_list};
+use second::cases::{random_table, table_bytes, STRATEGIES};
 use second::coordinator::{call, open_files};
-use second::encode;
 use second::list::{decode_records, task_count, Instruction, Line, TaskList};
 use second::rng::Rng;
+use second::{encode, TODAY};
 
 use crate::fuzzer_mutation;
 use crate::parts::{call_of, Parts};
@@ -24,6 +25,7 @@ pub fn hand_run_input(input: &[u8], most: usize, seed: u32) -> Vec<u8> {
         0 => return fuzzer_mutation(input, most),
         1 | 2 => parts.lengths = rng.byte(),
         3..=5 => change_library(&mut rng, &mut parts),
+        6 | 7 => change_table(&mut rng, &mut parts),
         _ => change_list(&mut rng, &mut parts, most),
     }
     parts.input(false)
@@ -45,7 +47,7 @@ pub fn calls_input(input: &[u8], most: usize, seed: u32) -> Vec<u8> {
 
 /// The room of one part when the others keep their lengths; the list's and the calls' lengths have two bytes each.
 fn room(parts: &Parts, own: usize, most: usize) -> usize {
-    let all = 5 + parts.list.len() + parts.calls.len() + parts.library.len();
+    let all = 5 + parts.list.len() + parts.calls.len() + parts.table.len() + parts.library.len();
     (most + own).saturating_sub(all).min(65_535)
 }
 
@@ -60,6 +62,21 @@ fn change_library(rng: &mut Rng, parts: &mut Parts) {
     } else {
         parts.library = library_bytes(&random_library(rng, parts.fitting() / 4));
     }
+}
+
+/// Mostly a table that is accepted, so that the list is run.
+fn change_table(rng: &mut Rng, parts: &mut Parts) {
+    parts.table = match rng.below(8) {
+        0 => fuzzer_mutation(&parts.table, 64),
+        1 => table_bytes(&bad_table(rng)),
+        2 => {
+            let mut table = table_bytes(&random_table(rng));
+            table.resize(rng.pick(&[0, 1, 2, 22, 23, 25, 26, 30, 32]), 1);
+            table
+        }
+        3 | 4 => table_bytes(&TODAY),
+        _ => table_bytes(&random_table(rng)),
+    };
 }
 
 // ---------------------------------------------------------------------------------------------

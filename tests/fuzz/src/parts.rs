@@ -1,5 +1,6 @@
 //! How an input of `hand_run` or `calls` is cut into its parts: a byte of lengths, the list's length in two bytes, the list,
-//! for `calls` also the calls behind their length, then the library. A length beyond the input's end takes what is there.
+//! then behind its length the table of weights, for `calls` in its place the calls, then the library. A length beyond the
+//! input's end takes what is there.
 
 #[derive(Clone, Debug, Default, PartialEq, Eq)]
 pub struct Parts {
@@ -8,6 +9,8 @@ pub struct Parts {
     pub list: Vec<u8>,
     /// Two bytes each.
     pub calls: Vec<u8>,
+    /// Two bytes for each number; `calls` has none, as its runs are under today's numbers.
+    pub table: Vec<u8>,
     pub library: Vec<u8>,
 }
 
@@ -36,16 +39,18 @@ impl Parts {
         let mut rest = input;
         let lengths = take(&mut rest, 1).first().map_or(0, |byte| *byte);
         let list = take_long(&mut rest);
-        let calls = if with_calls {
-            take_long(&mut rest)
+        let between = take_long(&mut rest);
+        let (calls, table) = if with_calls {
+            (between, Vec::new())
         } else {
-            Vec::new()
+            (Vec::new(), between)
         };
         let library = rest.to_vec();
         Parts {
             lengths,
             list,
             calls,
+            table,
             library,
         }
     }
@@ -53,9 +58,10 @@ impl Parts {
     pub fn input(&self, with_calls: bool) -> Vec<u8> {
         let mut bytes = vec![self.lengths];
         put_long(&mut bytes, &self.list);
-        if with_calls {
-            put_long(&mut bytes, &self.calls);
-        }
+        put_long(
+            &mut bytes,
+            if with_calls { &self.calls } else { &self.table },
+        );
         bytes.extend(&self.library);
         bytes
     }

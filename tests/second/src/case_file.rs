@@ -3,7 +3,7 @@
 use crate::cases::hex;
 use crate::coordinator::call;
 use crate::list::write;
-use crate::run::{hand_run, open, queue, record, Run, NEVER_MADE, RECORDS};
+use crate::run::{hand_run, open, queue, record, Run, NEVER_MADE, RECORDS, TODAY};
 
 /// "at most 65,536 bytes in all"
 pub const MOST_BYTES: usize = 65_536;
@@ -93,12 +93,12 @@ fn take_number(rest: &mut &[u8]) -> Option<u32> {
     Some(u32::from_le_bytes([bytes[0], bytes[1], bytes[2], bytes[3]]))
 }
 
-/// What is printed for the cases.
+/// What is printed for the cases, under today's numbers.
 pub fn cases_output(cases: &[Case]) -> String {
     let mut text = String::new();
     for (i, case) in cases.iter().enumerate() {
         text.push_str(&format!("case {i}\n"));
-        let mut run = match open(&case.list, &case.library) {
+        let mut run = match open(&case.list, &case.library, &TODAY) {
             Ok(run) => run,
             Err(refusal) => {
                 text.push_str(&format!("open {refusal}\n"));
@@ -124,7 +124,8 @@ pub fn cases_output(cases: &[Case]) -> String {
         }
         let written = writer_line(&mut text, "write", &run, LONGEST);
         writer_line(&mut text, "short", &run, written - 1);
-        let hand = hand_run(&case.list, &case.library).expect("open has accepted the same");
+        let hand = hand_run(&case.list, &case.library, &TODAY);
+        let hand = hand.expect("open has accepted the same");
         text.push_str(&format!("hand {}\n", totals(&hand)));
         text.push_str(&format!("hand entries{}\n", words(&hand.memory)));
         record_lines(&mut text, "hand record", &hand);

@@ -6,7 +6,8 @@ use crate::list::{
     TaskList, COUNT_CAP,
 };
 use crate::rng::Rng;
-use crate::run::{at_its_end, test_end, test_start, test_step, Run, NONE, READ, WAITING, WRITE};
+use crate::run::{at_its_end, test_end, test_start, test_step, Run};
+use crate::run::{NONE, READ, TODAY, WAITING, WEIGHTS, WRITE};
 
 /// P of "Publishing examples", byte by byte.
 pub const EXAMPLE_P: [u8; 54] = [
@@ -963,6 +964,45 @@ pub fn random_library(rng: &mut Rng, count: usize) -> Vec<u32> {
         });
     }
     library
+}
+
+/// #105: a table that is accepted: today's, or numbers from 1 to 1000, the limits among them.
+pub fn random_table(rng: &mut Rng) -> [u16; WEIGHTS] {
+    let mut table = TODAY;
+    if rng.percent(20) {
+        return table;
+    }
+    for number in &mut table {
+        *number = match rng.below(6) {
+            0 => rng.pick(&[1, 1000]),
+            1 => rng.between(1, 10) as u16,
+            _ => rng.between(1, 1000) as u16,
+        };
+    }
+    table
+}
+
+/// #105: a table with one number or more that is not in 1 to 1000.
+pub fn bad_table(rng: &mut Rng) -> [u16; WEIGHTS] {
+    let mut table = random_table(rng);
+    let count = rng.pick(&[1, 1, 1, 2, WEIGHTS]);
+    for _ in 0..count {
+        table[rng.below(WEIGHTS)] = match rng.below(4) {
+            0 => 0,
+            1 => 1001,
+            2 => rng.pick(&[1002, 1024, 1256, 0x0401, 32768, 65535]),
+            _ => rng.between(1001, 65535) as u16,
+        };
+    }
+    table
+}
+
+/// The bytes of a table over the C boundary: "two per number, least first".
+pub fn table_bytes(table: &[u16]) -> Vec<u8> {
+    table
+        .iter()
+        .flat_map(|number| number.to_le_bytes())
+        .collect()
 }
 
 /// The bytes of library.bin: "4 bytes per entry, least first".

@@ -1,7 +1,8 @@
 //! What the coordinator prints, and the two functions that the editor's preview uses.
 
 use crate::list::{check, decode, NOT_WHOLE, SLICE_TOO_SHORT};
-use crate::run::{end, hand_run, open, start, step, Run, LIBRARY_LENGTH};
+use crate::run::{end, hand_run, open, start, step, Run};
+use crate::run::{LIBRARY_LENGTH, TABLE_LENGTH, TODAY, WEIGHTS};
 
 /// "another kind, or half a call: 18"
 pub const BAD_CALL: u32 = 18;
@@ -19,10 +20,10 @@ fn library_numbers(jobs: &[u8], library_bytes: &[u8]) -> Result<Vec<u32>, u32> {
     Ok(numbers)
 }
 
-/// Open on the two files' bytes.
+/// Open on the two files' bytes. #105: "Coordinator and preview pass today's numbers".
 pub fn open_files(jobs: &[u8], library_bytes: &[u8]) -> Result<Run, u32> {
     let library = library_numbers(jobs, library_bytes)?;
-    open(jobs, &library)
+    open(jobs, &library, &TODAY)
 }
 
 /// "two-byte calls from standard input: 0 start, 1 step, 2 end, then the job"; "another kind: 18"
@@ -90,17 +91,36 @@ pub fn preview_check(list: &[u8]) -> u32 {
 }
 
 /// "its hand run takes the library as in library.bin below and writes the final entries likewise
-/// (slice too short: 17, last)"; "a successful hand run gives 0"
-pub fn preview_hand_run(list: &[u8], library_bytes: &[u8], result: &mut [u8]) -> u32 {
-    match hand_run_into(list, library_bytes, result) {
+/// (slice too short: 17, last)"; "a successful hand run gives 0". #105: "over the C boundary the table is
+/// bytes, two per number, least first".
+pub fn preview_hand_run(list: &[u8], library: &[u8], table: &[u8], result: &mut [u8]) -> u32 {
+    match hand_run_into(list, library, table, result) {
         Ok(()) => 0,
         Err(refusal) => 128 + refusal,
     }
 }
 
-fn hand_run_into(list: &[u8], library_bytes: &[u8], result: &mut [u8]) -> Result<(), u32> {
+/// The table's numbers; 21 where it hasn't two bytes for each.
+fn table_numbers(table_bytes: &[u8]) -> Result<Vec<u16>, u32> {
+    if table_bytes.len() != 2 * WEIGHTS {
+        return Err(TABLE_LENGTH);
+    }
+    let mut numbers = Vec::new();
+    for bytes in table_bytes.chunks(2) {
+        numbers.push(u16::from_le_bytes([bytes[0], bytes[1]]));
+    }
+    Ok(numbers)
+}
+
+fn hand_run_into(
+    list: &[u8],
+    library_bytes: &[u8],
+    table_bytes: &[u8],
+    result: &mut [u8],
+) -> Result<(), u32> {
     let library = library_numbers(list, library_bytes)?;
-    let run = hand_run(list, &library)?;
+    let table = table_numbers(table_bytes)?;
+    let run = hand_run(list, &library, &table)?;
     if result.len() < 4 * run.memory.len() {
         return Err(SLICE_TOO_SHORT);
     }

@@ -16,4 +16,4 @@ pub mod run;
 
 pub use coordinator::{files_transcript, preview_check, preview_hand_run, transcript};
 pub use list::{check, decode, empty_list, encode, write, Instruction, Line, TaskList};
-pub use run::{end, hand_run, open, queue, record, start, step, Record, Run};
+pub use run::{end, hand_run, open, queue, record, start, step, Record, Run, TODAY};

@@ -8,7 +8,7 @@ use crate::cases::{
 use crate::coordinator::call;
 use crate::list::{decode, encode, task_count, Instruction, Line, TaskList};
 use crate::rng::Rng;
-use crate::run::open;
+use crate::run::{open, TODAY};
 
 /// The stored file of cases is made with these.
 pub const STORED_SEED: u64 = 1;
@@ -80,7 +80,7 @@ fn case(list: &[u8], library: &[u32], text: &str) -> Case {
 /// The calls of the hand run, and then one more.
 fn whole(list: &[u8], library: &[u32]) -> Case {
     let mut case = case(list, library, "");
-    let mut run = open(list, library).expect("an accepted list with its library");
+    let mut run = open(list, library, &TODAY).expect("an accepted list with its library");
     let mut rng = Rng::new(0);
     while let Some((kind, task)) = sensible_call(&mut rng, Strategy::Front, &run, 0) {
         case.calls.push((kind, task));
@@ -896,11 +896,11 @@ pub fn random_case(rng: &mut Rng) -> Case {
         calls: Vec::new(),
     };
     if rng.percent(4) {
-        while case.list.len() > most_bytes || open(&case.list, &case.library).is_ok() {
+        while case.list.len() > most_bytes || open(&case.list, &case.library, &TODAY).is_ok() {
             case.list = list_case(rng);
         }
     }
-    let mut run = match open(&case.list, &case.library) {
+    let mut run = match open(&case.list, &case.library, &TODAY) {
         Ok(run) => run,
         Err(_) => return case,
     };

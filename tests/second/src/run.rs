@@ -1,6 +1,8 @@
 //! Jobs, order, queues, calls and the hand run.
 
-use crate::list::{block, decode, task_counts, Instruction, Line, TaskList, SLICE_TOO_SHORT};
+use crate::list::{
+    block, decode, encode_instruction, task_counts, Instruction, Line, TaskList, SLICE_TOO_SHORT,
+};
 
 /// "8, library length not C"
 pub const LIBRARY_LENGTH: u32 = 8;
@@ -22,11 +24,21 @@ pub const NO_SUCH_LOCATION: u32 = 16;
 pub const BEHIND_A_WRITER: u32 = 19;
 /// #102: "20 for any other hold"
 pub const OTHER_HOLD: u32 = 20;
+/// #105: "21 wrong length"
+pub const TABLE_LENGTH: u32 = 21;
+/// #105: "22 a number not in 1 to 1000"
+pub const TABLE_NUMBER: u32 = 22;
 
 /// "128 records"
 pub const RECORDS: usize = 128;
 /// "a mode per entry (...; always 0 from C to 63)"
 pub const MODES: usize = 64;
+
+/// #105: "a lent table of 12 numbers of 16 bits: start, end, then codes 0 to 9, code 9's per child"
+pub const WEIGHTS: usize = 12;
+/// Today's numbers: "start 5, end 2, codes 0 to 8: 1, 1, 1, 1, 3, 4, 1, 8, 1"; #104, of a fan: "The weight
+/// is 8 × c."
+pub const TODAY: [u16; WEIGHTS] = [5, 2, 1, 1, 1, 1, 3, 4, 1, 8, 1, 8];
 
 pub const NEVER_MADE: u8 = 0;
 pub const WAITING: u8 = 1;
@@ -52,7 +64,7 @@ pub struct Record {
 }
 
 /// "An open run also has the accepted list, the entries, calls accepted, weight, and the order:
-/// unended jobs, front to back".
+/// unended jobs, front to back". #105: and the table that it was opened with, which no call changes.
 #[derive(Clone, Debug, PartialEq, Eq)]
 pub struct Run {
     pub list: TaskList,
@@ -61,6 +73,7 @@ pub struct Run {
     pub weight: u64,
     pub order: Vec<usize>,
     pub records: Vec<Record>,
+    pub table: [u16; WEIGHTS],
 }
 
 /// "Never made: all zero."
@@ -77,18 +90,31 @@ pub fn never_made() -> Record {
     }
 }
 
-/// "Open and hand run: as check, then 8, library length not C."
-pub fn open(bytes: &[u8], library: &[u32]) -> Result<Run, u32> {
+/// "Open and hand run: as check, then 8, library length not C." #105: "After 8: 21 wrong length, 22 a
+/// number not in 1 to 1000."
+pub fn open(bytes: &[u8], library: &[u32], table: &[u16]) -> Result<Run, u32> {
     let list = decode(bytes)?;
     if library.len() != list.locations {
         return Err(LIBRARY_LENGTH);
     }
-    Ok(fresh_run(list, library))
+    let table = checked_table(table)?;
+    Ok(fresh_run(list, library, table))
+}
+
+/// #105: the table "is checked before use".
+fn checked_table(table: &[u16]) -> Result<[u16; WEIGHTS], u32> {
+    let numbers: [u16; WEIGHTS] = table.try_into().map_err(|_| TABLE_LENGTH)?;
+    for number in numbers {
+        if !(1..=1000).contains(&number) {
+            return Err(TABLE_NUMBER);
+        }
+    }
+    Ok(numbers)
 }
 
 /// "A fresh run is what open gives when it accepts: the library's numbers as the entries, job 0 alone
 /// in the order, all other records zero, calls and weight 0."
-fn fresh_run(list: TaskList, library: &[u32]) -> Run {
+fn fresh_run(list: TaskList, library: &[u32], table: [u16; WEIGHTS]) -> Run {
     let mut records = Vec::new();
     for _ in 0..RECORDS {
         records.push(never_made());
@@ -105,6 +131,7 @@ fn fresh_run(list: TaskList, library: &[u32]) -> Run {
         weight: 0,
         order: vec![0],
         records,
+        table,
     }
 }
 
@@ -185,21 +212,21 @@ fn count_call(run: &mut Run, task: usize, weight: u64) {
     run.records[task].weight += weight;
 }
 
-/// "start 5, end 2, codes 0 to 8: 1, 1, 1, 1, 3, 4, 1, 8, 1"; #104, of a fan: "The weight is 8 × c."
-const START_WEIGHT: u64 = 5;
-const END_WEIGHT: u64 = 2;
-fn step_weight(instruction: &Instruction) -> u64 {
+/// #105: "start, end, then codes 0 to 9, code 9's per child".
+fn start_weight(run: &Run) -> u64 {
+    run.table[0] as u64
+}
+
+fn end_weight(run: &Run) -> u64 {
+    run.table[1] as u64
+}
+
+fn step_weight(run: &Run, instruction: &Instruction) -> u64 {
+    let code = encode_instruction(instruction)[0] as usize;
+    let number = run.table[2 + code] as u64;
     match instruction {
-        Instruction::Const { .. } => 1,
-        Instruction::Add { .. } => 1,
-        Instruction::Sub { .. } => 1,
-        Instruction::Less { .. } => 1,
-        Instruction::Load { .. } => 3,
-        Instruction::Store { .. } => 4,
-        Instruction::Skip { .. } => 1,
-        Instruction::Spawn { .. } => 8,
-        Instruction::Wait { .. } => 1,
-        Instruction::Fan { children, .. } => 8 * *children as u64,
+        Instruction::Fan { children, .. } => number * *children as u64,
+        _ => number,
     }
 }
 
@@ -294,7 +321,7 @@ pub fn search(run: &Run, task: usize, locations: &[usize]) -> (bool, usize) {
 pub fn start(run: &mut Run, number: u32) -> Result<(), u32> {
     let task = test_start(run, number)?;
     run.records[task].state = STARTED;
-    count_call(run, task, START_WEIGHT);
+    count_call(run, task, start_weight(run));
     Ok(())
 }
 
@@ -449,7 +476,7 @@ pub fn step(run: &mut Run, number: u32) -> Result<(), u32> {
     let instruction = instruction_at(run, task);
     let fault = fault_of(run, task, &instruction);
     // "A faulting step is accepted, counts and weighs; done rises"
-    count_call(run, task, step_weight(&instruction));
+    count_call(run, task, step_weight(run, &instruction));
     run.records[task].steps += 1;
     if fault != 0 {
         // "but no place, register, entry or other job changes, and the job is then at its end"
@@ -579,7 +606,7 @@ pub fn end(run: &mut Run, number: u32) -> Result<(), u32> {
     let task = test_end(run, number)?;
     run.order.retain(|other| *other != task);
     run.records[task].state = ENDED;
-    count_call(run, task, END_WEIGHT);
+    count_call(run, task, end_weight(run));
     Ok(())
 }
 
@@ -610,8 +637,8 @@ pub fn queue(run: &Run, location: u32, places: &mut [u16]) -> Result<usize, u32>
 
 /// "The hand run takes what open takes and makes the same calls from a fresh run in one order: job 0
 /// is run whole. The hand run gives the run with no job left."
-pub fn hand_run(bytes: &[u8], library: &[u32]) -> Result<Run, u32> {
-    let mut run = open(bytes, library)?;
+pub fn hand_run(bytes: &[u8], library: &[u32], table: &[u16]) -> Result<Run, u32> {
+    let mut run = open(bytes, library, table)?;
     run_whole(&mut run, 0);
     Ok(run)
 }

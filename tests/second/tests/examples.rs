@@ -1,7 +1,7 @@
 //! Every example of document 01, "Publishing examples", and single sentences with a number in them, of
 //! document 02 too.
 
-use second::cases::{doubling_list, fan_tree, library_bytes, EXAMPLE_P};
+use second::cases::{doubling_list, fan_tree, library_bytes, table_bytes, EXAMPLE_P};
 use second::list::task_counts;
 use second::named::{
     constant, fan, fan_of_strengths, fans_and_spawns, list, pairs_of_lines, read_line, spawn,
@@ -55,7 +55,7 @@ fn p_has_54_bytes_and_three_jobs() {
 
 #[test]
 fn p_hand_run() {
-    let run = hand_run(&EXAMPLE_P, &LIBRARY_P).unwrap();
+    let run = hand_run(&EXAMPLE_P, &LIBRARY_P, &TODAY).unwrap();
     assert_eq!(run.memory, [9, 9]);
     assert_eq!(run.calls, 13);
     assert_eq!(run.weight, 50);
@@ -74,7 +74,7 @@ fn p_hand_run() {
 
 #[test]
 fn p_orders_and_queues() {
-    let mut run = open(&EXAMPLE_P, &LIBRARY_P).unwrap();
+    let mut run = open(&EXAMPLE_P, &LIBRARY_P, &TODAY).unwrap();
     assert_eq!(run.order, [0]);
     assert_eq!(run.records[0].state, WAITING);
     start_and_step(&mut run, 0, 2);
@@ -95,7 +95,7 @@ fn p_orders_and_queues() {
 
 #[test]
 fn queue_refusals() {
-    let mut run = open(&EXAMPLE_P, &LIBRARY_P).unwrap();
+    let mut run = open(&EXAMPLE_P, &LIBRARY_P, &TODAY).unwrap();
     start_and_step(&mut run, 0, 2);
     let mut places = [7u16; 2];
     assert_eq!(queue(&run, 2, &mut places), Err(16));
@@ -122,7 +122,7 @@ fn two_readers_start_beside_each_other() {
             &[],
         ],
     );
-    let mut run = open(&bytes, &[5]).unwrap();
+    let mut run = open(&bytes, &[5], &TODAY).unwrap();
     start_and_step(&mut run, 0, 2);
     assert_eq!(start(&mut run, 2), Ok(()));
     assert_eq!(start(&mut run, 1), Ok(()));
@@ -144,7 +144,7 @@ fn a_writer_does_not_pass_a_reader() {
         &[&[read_line(0)], &[write_line(0)]],
         &[&[spawn(1, 0), spawn(1, 1), spawn(1, 0)], &[]],
     );
-    let mut run = open(&bytes, &[5]).unwrap();
+    let mut run = open(&bytes, &[5], &TODAY).unwrap();
     start_and_step(&mut run, 0, 3);
     assert_eq!(run.order, [1, 2, 3, 0]);
     assert_eq!(start(&mut run, 1), Ok(()));
@@ -162,7 +162,7 @@ fn a_writer_does_not_pass_a_reader() {
 #[test]
 fn a_start_looks_at_every_entry_of_the_footprint() {
     let bytes = starts_behind_reader_and_writer();
-    let mut run = open(&bytes, &[5, 6, 7, 8]).unwrap();
+    let mut run = open(&bytes, &[5, 6, 7, 8], &TODAY).unwrap();
     start_and_step(&mut run, 0, 6);
     assert_eq!(run.order, [1, 2, 3, 4, 5, 6, 0]);
     // Behind the reader 1; the writer 2 is ahead of it, but not in its queue.
@@ -189,7 +189,7 @@ fn a_start_looks_at_every_entry_of_the_footprint() {
 #[test]
 fn a_step_looks_at_one_entry() {
     let bytes = steps_behind_reader_and_writer();
-    let mut run = open(&bytes, &LIBRARY_P).unwrap();
+    let mut run = open(&bytes, &LIBRARY_P, &TODAY).unwrap();
     start_and_step(&mut run, 0, 3);
     assert_eq!(run.order, [1, 2, 0]);
     // Load and store at entry 0, where the reader is ahead.
@@ -224,7 +224,7 @@ fn each_step_behind_each_mode() {
             let mut root: Vec<Instruction> = footprints.iter().map(|f| spawn(1, *f)).collect();
             root.push(instruction);
             let bytes = list(1, &[&[read_line(0)], &[write_line(0)], &[]], &[&root, &[]]);
-            let mut run = open(&bytes, &[5]).unwrap();
+            let mut run = open(&bytes, &[5], &TODAY).unwrap();
             start_and_step(&mut run, 0, footprints.len());
             let expected = if instruction == load {
                 load_gives
@@ -244,7 +244,7 @@ fn each_step_behind_each_mode() {
 #[test]
 fn a_search_looks_no_further_than_needed() {
     let bytes = starts_behind_reader_and_writer();
-    let mut run = open(&bytes, &[5, 6, 7, 8]).unwrap();
+    let mut run = open(&bytes, &[5, 6, 7, 8], &TODAY).unwrap();
     // Job 0 alone: its own mode write never counts.
     assert_eq!(search(&run, 0, &[0, 1, 2, 3]), (false, 1));
     start_and_step(&mut run, 0, 6);
@@ -283,7 +283,7 @@ fn a_search_looks_no_further_than_needed() {
     assert_eq!(search(&run, 4, &[0, 1]), (false, 3));
     assert_eq!(search(&run, 0, &[1]), (false, 6));
     // P: "start 2 now gives 19", after a look at one job.
-    let mut run = open(&EXAMPLE_P, &LIBRARY_P).unwrap();
+    let mut run = open(&EXAMPLE_P, &LIBRARY_P, &TODAY).unwrap();
     start_and_step(&mut run, 0, 2);
     assert_eq!(search(&run, 2, &[0, 1]), (true, 1));
     assert_eq!(search(&run, 1, &[0]), (false, 1));
@@ -300,7 +300,7 @@ fn store_to_a_read_entry_is_fault_2() {
             &[constant(1, 9), Instruction::Store { a: 0, b: 1 }],
         ],
     );
-    let mut run = open(&bytes, &[5]).unwrap();
+    let mut run = open(&bytes, &[5], &TODAY).unwrap();
     start_and_step(&mut run, 0, 2);
     // Job 2 is behind the reader 1: the fault comes before waiting.
     start_and_step(&mut run, 2, 2);
@@ -323,7 +323,7 @@ fn load_at_c_is_fault_1() {
             &[],
             &[&[constant(0, number), Instruction::Load { a: 1, b: 0 }]],
         );
-        let run = hand_run(&bytes, &LIBRARY_P).unwrap();
+        let run = hand_run(&bytes, &LIBRARY_P, &TODAY).unwrap();
         let record = record(&run, 0).unwrap();
         assert_eq!((record.fault, record.pc, record.steps), (1, 1, 2));
         assert_eq!(record.registers, [number as u32, 0, 0, 0]);
@@ -336,7 +336,7 @@ fn load_at_c_is_fault_1() {
 fn an_entry_named_twice_counts_once() {
     for (lines, mode) in pairs_of_lines().into_iter().zip([1, 2, 2, 2]) {
         let bytes = list(2, &[&lines], &[&[spawn(1, 0), constant(0, 1)], &[]]);
-        let mut run = open(&bytes, &LIBRARY_P).unwrap();
+        let mut run = open(&bytes, &LIBRARY_P, &TODAY).unwrap();
         start_and_step(&mut run, 0, 1);
         assert_eq!((run.records[0].fault, run.records[0].pc), (0, 1));
         assert_eq!(run.order, [1, 0]);
@@ -347,7 +347,7 @@ fn an_entry_named_twice_counts_once() {
         assert_eq!(record(&run, 1).unwrap(), child);
         assert_eq!(queue_of(&run, 0), [1 + 256 * mode as u16, 512]);
         assert_eq!(queue_of(&run, 1), [512]);
-        let run = hand_run(&bytes, &LIBRARY_P).unwrap();
+        let run = hand_run(&bytes, &LIBRARY_P, &TODAY).unwrap();
         assert_eq!((run.calls, run.weight), (6, 23));
         assert_eq!(run.records[1].state, ENDED);
     }
@@ -377,7 +377,7 @@ fn an_entry_named_more_than_twice() {
             .collect();
         lines.insert(1, read_line(0));
         let bytes = list(2, &[&lines], &[&[constant(1, 1), spawn(1, 0)], &[]]);
-        let run = hand_run(&bytes, &LIBRARY_P).unwrap();
+        let run = hand_run(&bytes, &LIBRARY_P, &TODAY).unwrap();
         assert_eq!(run.records[0].fault, 0);
         assert_eq!(run.records[1].modes[..3], [1, mode, 0], "{kinds:?}");
     }
@@ -395,7 +395,7 @@ fn lines_are_tested_by_the_mode_of_the_spawner() {
         (read_line(1), [read_line(0), write_line(0)], 1),
     ] {
         let bytes = list(2, &[&[own], &lines], &[&[spawn(1, 0)], &[spawn(2, 1)], &[]]);
-        let run = hand_run(&bytes, &LIBRARY_P).unwrap();
+        let run = hand_run(&bytes, &LIBRARY_P, &TODAY).unwrap();
         assert_eq!(run.records[1].fault, fault, "{own:?} {lines:?}");
     }
 }
@@ -418,7 +418,7 @@ fn lines_are_tested_in_turn() {
             &[&[read_line(0)], lines],
             &[&[spawn(1, 0)], &[spawn(2, 1)], &[]],
         );
-        let run = hand_run(&bytes, &LIBRARY_P).unwrap();
+        let run = hand_run(&bytes, &LIBRARY_P, &TODAY).unwrap();
         assert_eq!(run.records[1].fault, fault);
         assert_eq!(run.records[2].state, if fault == 0 { ENDED } else { 0 });
     }
@@ -435,7 +435,7 @@ fn a_child_copies_registers_and_modes() {
             &[],
         ],
     );
-    let mut run = open(&bytes, &[5, 6, 7]).unwrap();
+    let mut run = open(&bytes, &[5, 6, 7], &TODAY).unwrap();
     start_and_step(&mut run, 0, 4);
     let mut child = never_made();
     child.state = WAITING;
@@ -466,7 +466,7 @@ fn wait_follows_the_own_mode() {
             &[wait, constant(0, 1), wait],
         ],
     );
-    let mut run = open(&bytes, &[5]).unwrap();
+    let mut run = open(&bytes, &[5], &TODAY).unwrap();
     start_and_step(&mut run, 0, 2);
     assert_eq!(step(&mut run, 0), Err(20));
     start_and_step(&mut run, 2, 3);
@@ -477,7 +477,7 @@ fn wait_follows_the_own_mode() {
 #[test]
 fn empty_body_0() {
     let bytes = list(1, &[], &[&[]]);
-    let mut run = open(&bytes, &[5]).unwrap();
+    let mut run = open(&bytes, &[5], &TODAY).unwrap();
     assert_eq!(step(&mut run, 0), Err(13));
     assert_eq!(end(&mut run, 0), Err(13));
     assert_eq!(start(&mut run, 0), Ok(()));
@@ -486,7 +486,7 @@ fn empty_body_0() {
     assert_eq!(step(&mut run, 0), Err(14));
     assert_eq!(end(&mut run, 0), Ok(()));
     assert_eq!((run.calls, run.weight), (2, 7));
-    assert_eq!(run, hand_run(&bytes, &[5]).unwrap());
+    assert_eq!(run, hand_run(&bytes, &[5], &TODAY).unwrap());
     assert_eq!(start(&mut run, 0), Err(10));
     assert_eq!(step(&mut run, 0), Err(10));
     assert_eq!(end(&mut run, 0), Err(10));
@@ -495,7 +495,7 @@ fn empty_body_0() {
 
 #[test]
 fn end_needs_the_end() {
-    let mut run = open(&EXAMPLE_P, &LIBRARY_P).unwrap();
+    let mut run = open(&EXAMPLE_P, &LIBRARY_P, &TODAY).unwrap();
     start_and_step(&mut run, 0, 1);
     assert_eq!(end(&mut run, 0), Err(15));
 }
@@ -506,7 +506,7 @@ fn trees_of_127_128_and_129_jobs() {
     assert_eq!(check(&encode(&doubling_list(1))), Ok(128));
     assert_eq!(check(&encode(&doubling_list(2))), Err(7));
     for more in 0..2 {
-        let run = hand_run(&encode(&doubling_list(more)), &[0]).unwrap();
+        let run = hand_run(&encode(&doubling_list(more)), &[0], &TODAY).unwrap();
         for task in 0..128 {
             let made = task < 127 + more;
             assert_eq!(run.records[task].state, if made { ENDED } else { 0 });
@@ -530,7 +530,7 @@ fn job_numbers_count_spawns_passed_over() {
         ],
     );
     assert_eq!(check(&bytes), Ok(5));
-    let run = hand_run(&bytes, &[0]).unwrap();
+    let run = hand_run(&bytes, &[0], &TODAY).unwrap();
     let states: Vec<u8> = run.records[..5].iter().map(|record| record.state).collect();
     assert_eq!(states, [3, 0, 0, 3, 3]);
     assert_eq!((run.records[0].pc, run.records[0].steps), (3, 2));
@@ -549,7 +549,7 @@ fn numbers_wrap_and_compare_unsigned() {
             Instruction::Add { a: 2, b: 2, c: 1 },
         ]],
     );
-    let run = hand_run(&bytes, &[0]).unwrap();
+    let run = hand_run(&bytes, &[0], &TODAY).unwrap();
     assert_eq!(run.records[0].registers, [1, 513, 0, 0]);
 }
 
@@ -614,16 +614,22 @@ fn the_empty_file() {
     }
     // Its runs are those of the marked records.
     for library in [&[][..], &[5], &[5, 7]] {
-        assert_eq!(open(&[], library), open(&MARKED, library));
-        assert_eq!(hand_run(&[], library), hand_run(&MARKED, library));
-        assert_eq!(open(&[], library).err(), (library.len() != 1).then_some(8));
+        assert_eq!(open(&[], library, &TODAY), open(&MARKED, library, &TODAY));
+        assert_eq!(
+            hand_run(&[], library, &TODAY),
+            hand_run(&MARKED, library, &TODAY)
+        );
+        assert_eq!(
+            open(&[], library, &TODAY).err(),
+            (library.len() != 1).then_some(8)
+        );
     }
-    let mut run = open(&[], &[5]).unwrap();
+    let mut run = open(&[], &[5], &TODAY).unwrap();
     assert_eq!(queue_of(&run, 0), [512]);
     assert_eq!(start(&mut run, 0), Ok(()));
     assert_eq!(end(&mut run, 0), Ok(()));
     assert_eq!((run.calls, run.weight, &run.memory[..]), (2, 7, &[5][..]));
-    assert_eq!(run, hand_run(&[], &[5]).unwrap());
+    assert_eq!(run, hand_run(&[], &[5], &TODAY).unwrap());
 }
 
 #[test]
@@ -652,11 +658,11 @@ fn the_longest_list_and_huge_counts() {
 #[test]
 fn open_and_hand_run_refusals() {
     for library in [&[][..], &[5], &[5, 7, 9]] {
-        assert_eq!(open(&EXAMPLE_P, library), Err(8));
-        assert_eq!(hand_run(&EXAMPLE_P, library), Err(8));
+        assert_eq!(open(&EXAMPLE_P, library, &TODAY), Err(8));
+        assert_eq!(hand_run(&EXAMPLE_P, library, &TODAY), Err(8));
     }
-    assert_eq!(open(&EXAMPLE_P[..53], &[]), Err(1));
-    assert_eq!(hand_run(&EXAMPLE_P[..53], &[]), Err(1));
+    assert_eq!(open(&EXAMPLE_P[..53], &[], &TODAY), Err(1));
+    assert_eq!(hand_run(&EXAMPLE_P[..53], &[], &TODAY), Err(1));
 }
 
 #[test]
@@ -729,27 +735,47 @@ fn preview_functions() {
     assert_eq!(preview_check(&encode(&doubling_list(1))), 128);
     assert_eq!(preview_check(&encode(&doubling_list(2))), 135);
     let mut result = [1u8; 9];
-    assert_eq!(preview_hand_run(&EXAMPLE_P, &library, &mut result), 0);
+    assert_eq!(
+        preview_hand_run(&EXAMPLE_P, &library, &table_bytes(&TODAY), &mut result),
+        0
+    );
     assert_eq!(result, [9, 0, 0, 0, 9, 0, 0, 0, 1]);
     let mut result = [1u8; 7];
-    assert_eq!(preview_hand_run(&EXAMPLE_P, &library, &mut result), 145);
     assert_eq!(
-        preview_hand_run(&EXAMPLE_P, &library[..7], &mut result),
+        preview_hand_run(&EXAMPLE_P, &library, &table_bytes(&TODAY), &mut result),
+        145
+    );
+    assert_eq!(
+        preview_hand_run(&EXAMPLE_P, &library[..7], &table_bytes(&TODAY), &mut result),
         136
     );
     assert_eq!(
-        preview_hand_run(&EXAMPLE_P[..53], &library[..7], &mut result),
+        preview_hand_run(
+            &EXAMPLE_P[..53],
+            &library[..7],
+            &table_bytes(&TODAY),
+            &mut result
+        ),
         129
     );
     assert_eq!(result, [1; 7]);
     // #101
     assert_eq!(preview_check(&[]), 1);
     for length in [0, 3, 5, 8] {
-        assert_eq!(preview_hand_run(&[], &library[..length], &mut result), 136);
+        assert_eq!(
+            preview_hand_run(&[], &library[..length], &table_bytes(&TODAY), &mut result),
+            136
+        );
     }
-    assert_eq!(preview_hand_run(&[], &library[..4], &mut result[..3]), 145);
+    assert_eq!(
+        preview_hand_run(&[], &library[..4], &table_bytes(&TODAY), &mut result[..3]),
+        145
+    );
     assert_eq!(result, [1; 7]);
-    assert_eq!(preview_hand_run(&[], &library[..4], &mut result), 0);
+    assert_eq!(
+        preview_hand_run(&[], &library[..4], &table_bytes(&TODAY), &mut result),
+        0
+    );
     assert_eq!(result, [5, 0, 0, 0, 1, 1, 1]);
 }
 
@@ -784,7 +810,7 @@ fn which_fans_are_good() {
 fn the_children_of_a_fan() {
     let bytes = fan_of_strengths();
     assert_eq!(check(&bytes), Ok(4));
-    let mut run = open(&bytes, &[5, 6, 7, 8]).unwrap();
+    let mut run = open(&bytes, &[5, 6, 7, 8], &TODAY).unwrap();
     start_and_step(&mut run, 0, 4);
     assert_eq!(run.order, [1, 2, 3, 0]);
     // One step: 5 + 1 + 1 + 1 + 8 × 3.
@@ -807,7 +833,7 @@ fn the_children_of_a_fan() {
     for task in [3, 1, 2] {
         assert_eq!(start(&mut run, task), Ok(()));
     }
-    let run = hand_run(&bytes, &[5, 6, 7, 8]).unwrap();
+    let run = hand_run(&bytes, &[5, 6, 7, 8], &TODAY).unwrap();
     assert_eq!(run.memory, [48, 48, 48, 8]);
     assert_eq!(run.records[0].registers, [3, 40, 48, 3]);
     // 7 steps, three times 3, four starts and ends.
@@ -829,7 +855,7 @@ fn a_fan_stands_where_its_spawner_stands() {
     );
     // Sheet 1 counts 4: jobs 1, 5, 9 and 13.
     assert_eq!(check(&bytes), Ok(17));
-    let mut run = open(&bytes, &[5]).unwrap();
+    let mut run = open(&bytes, &[5], &TODAY).unwrap();
     start_and_step(&mut run, 0, 3);
     assert_eq!(run.order, [1, 5, 9, 13, 0]);
     start_and_step(&mut run, 9, 1);
@@ -855,10 +881,10 @@ fn numbers_behind_a_fan() {
             b: passed_over,
         });
         assert_eq!(task_counts(&decode(&bytes).unwrap()), [17, 3, 1]);
-        let mut run = open(&bytes, &[5]).unwrap();
+        let mut run = open(&bytes, &[5], &TODAY).unwrap();
         start_and_step(&mut run, 0, 6 - passed_over as usize);
         assert_eq!(run.order, [made, &[0]].concat());
-        let run = hand_run(&bytes, &[5]).unwrap();
+        let run = hand_run(&bytes, &[5], &TODAY).unwrap();
         for task in 1..128 {
             // The two behind 1, 4, 7 and 10 are theirs.
             let of =
@@ -899,7 +925,7 @@ fn a_fan_makes_all_children_or_none() {
                 &[],
             ],
         );
-        let mut run = open(&bytes, &LIBRARY_P).unwrap();
+        let mut run = open(&bytes, &LIBRARY_P, &TODAY).unwrap();
         start_and_step(&mut run, 0, 2);
         start_and_step(&mut run, 1, 1);
         let spawner = record(&run, 1).unwrap();
@@ -915,7 +941,7 @@ fn a_fan_makes_all_children_or_none() {
             assert_eq!(run.records[2 + child].state, state);
         }
         assert_eq!(spawner.registers, [0, 1, 0, 0]);
-        let hand = hand_run(&bytes, &LIBRARY_P).unwrap();
+        let hand = hand_run(&bytes, &LIBRARY_P, &TODAY).unwrap();
         assert_eq!(hand.records[1].fault, fault);
         assert_eq!(
             hand.calls,
@@ -932,7 +958,7 @@ fn a_fan_never_waits() {
         &[&[write_line(0), write_line(1)], &[WRITE_BY_CHILD]],
         &[&[spawn(1, 0), fan(1, 1, 2)], &[]],
     );
-    let mut run = open(&bytes, &LIBRARY_P).unwrap();
+    let mut run = open(&bytes, &LIBRARY_P, &TODAY).unwrap();
     start_and_step(&mut run, 0, 2);
     assert_eq!(run.order, [1, 2, 3, 0]);
     for task in [2, 3] {
@@ -944,7 +970,7 @@ fn a_fan_never_waits() {
     for task in [3, 2] {
         start_and_end(&mut run, task);
     }
-    assert_eq!(run, hand_run(&bytes, &LIBRARY_P).unwrap());
+    assert_eq!(run, hand_run(&bytes, &LIBRARY_P, &TODAY).unwrap());
 }
 
 /// #104: "the hand run completes them from child 0 on".
@@ -967,10 +993,10 @@ fn the_hand_run_of_a_fan() {
         Instruction::Store { a: 3, b: 2 },
     ]);
     let bytes = list(1, &[&[write_line(0)]], &[&[fan(1, 0, 9)], &child]);
-    let run = hand_run(&bytes, &[0]).unwrap();
+    let run = hand_run(&bytes, &[0], &TODAY).unwrap();
     assert_eq!(run.memory, [123_456_789]);
     // No other order of the children is possible: each waits for those ahead.
-    let mut run = open(&bytes, &[0]).unwrap();
+    let mut run = open(&bytes, &[0], &TODAY).unwrap();
     start_and_step(&mut run, 0, 1);
     for task in 2..10 {
         assert_eq!(start(&mut run, task), Err(19));
@@ -983,7 +1009,7 @@ fn trees_of_fans() {
     assert_eq!(check(&encode(&fan_tree(15))), Ok(128));
     assert_eq!(check(&encode(&fan_tree(16))), Err(7));
     assert_eq!(check(&encode(&fan_tree(17))), Err(7));
-    let run = hand_run(&encode(&fan_tree(15)), &[0]).unwrap();
+    let run = hand_run(&encode(&fan_tree(15)), &[0], &TODAY).unwrap();
     assert!(run.records.iter().all(|record| record.state == ENDED));
     // Two fans of job 0 and one of each of its 16 children; 128 starts and ends.
     assert_eq!(run.calls, 18 + 2 * 128);
@@ -1003,5 +1029,160 @@ fn trees_of_fans() {
         };
         assert_eq!(record.registers, [r0 as u32, 0, 0, 0], "job {task}");
         assert_eq!(record.body, if grandchild || task > 112 { 2 } else { 1 });
+    }
+}
+
+/// #105: a table in which each number tells its place: start 101, end 102, code k 110 + k.
+const TELLING: [u16; 12] = [101, 102, 110, 111, 112, 113, 114, 115, 116, 117, 118, 119];
+
+/// #105: "start, end, then codes 0 to 9, code 9's per child".
+#[test]
+fn each_number_of_a_table() {
+    let cases: [(Instruction, u64); 11] = [
+        (constant(1, 9), 110),
+        (Instruction::Add { a: 0, b: 1, c: 2 }, 111),
+        (Instruction::Sub { a: 0, b: 1, c: 2 }, 112),
+        (Instruction::Less { a: 0, b: 1, c: 2 }, 113),
+        (Instruction::Load { a: 0, b: 1 }, 114),
+        (Instruction::Store { a: 0, b: 1 }, 115),
+        (Instruction::Skip { a: 0, b: 0 }, 116),
+        (spawn(1, 0), 117),
+        (Instruction::Wait { a: 0 }, 118),
+        (fan(1, 0, 1), 119),
+        (fan(1, 0, 16), 16 * 119),
+    ];
+    for (instruction, weight) in cases {
+        let bytes = list(1, &[&[]], &[&[instruction], &[]]);
+        let mut run = open(&bytes, &[5], &TELLING).unwrap();
+        assert_eq!((run.weight, run.table), (0, TELLING));
+        assert_eq!(start(&mut run, 0), Ok(()));
+        assert_eq!((run.weight, run.records[0].weight), (101, 101));
+        assert_eq!(step(&mut run, 0), Ok(()));
+        assert_eq!(run.weight, 101 + weight, "{instruction:?}");
+        assert_eq!(end(&mut run, 0), Ok(()));
+        assert_eq!(run.records[0].weight, 101 + weight + 102);
+        let hand = hand_run(&bytes, &[5], &TELLING).unwrap();
+        assert_eq!(hand.records[0].weight, 101 + weight + 102);
+        let children = check(&bytes).unwrap() as u64 - 1;
+        assert_eq!(hand.weight, 101 + weight + 102 + children * (101 + 102));
+    }
+}
+
+/// #105: a faulting step weighs the same, a faulting fan by all its children.
+#[test]
+fn a_faulting_step_weighs_by_the_table() {
+    for (instruction, weight) in [
+        (Instruction::Load { a: 0, b: 1 }, 114),
+        (Instruction::Store { a: 1, b: 0 }, 115),
+        (Instruction::Wait { a: 1 }, 118),
+        (spawn(1, 0), 117),
+        (fan(1, 0, 7), 7 * 119),
+    ] {
+        let by_register = Line { kind: 2, value: 1 };
+        let bytes = list(1, &[&[by_register]], &[&[constant(1, 1), instruction], &[]]);
+        let run = hand_run(&bytes, &[5], &TELLING).unwrap();
+        assert_eq!((run.records[0].fault, run.calls), (1, 4));
+        assert_eq!(run.weight, 101 + 110 + weight + 102);
+    }
+}
+
+/// #105: P under another table; under today's numbers its hand run weighs 50.
+#[test]
+fn p_under_another_table() {
+    let run = hand_run(&EXAMPLE_P, &LIBRARY_P, &TELLING).unwrap();
+    assert_eq!((&run.memory[..], run.calls), (&[9, 9][..], 13));
+    let weight = 3 * (101 + 102) + 2 * 117 + (110 + 115) + (114 + 110 + 115);
+    assert_eq!(run.weight, weight);
+    let mut refused = open(&EXAMPLE_P, &LIBRARY_P, &TELLING).unwrap();
+    let before = refused.clone();
+    assert_eq!(step(&mut refused, 0), Err(13));
+    assert_eq!(refused, before);
+    // Runs are equal only under one table.
+    assert_ne!(refused, open(&EXAMPLE_P, &LIBRARY_P, &TODAY).unwrap());
+}
+
+/// #105: "After 8: 21 wrong length, 22 a number not in 1 to 1000."
+#[test]
+fn refusals_of_a_table() {
+    let refusal = |library: &[u32], table: &[u16]| {
+        let opened = open(&EXAMPLE_P, library, table).err();
+        assert_eq!(hand_run(&EXAMPLE_P, library, table).err(), opened);
+        opened
+    };
+    for place in 0..12 {
+        for (number, expected) in [
+            (0, Some(22)),
+            (1, None),
+            (1000, None),
+            (1001, Some(22)),
+            (1024, Some(22)),
+            (65535, Some(22)),
+        ] {
+            let mut table = TODAY;
+            table[place] = number;
+            assert_eq!(refusal(&LIBRARY_P, &table), expected);
+            // 8 before 21 and 22, 21 before 22.
+            assert_eq!(refusal(&[5], &table), Some(8));
+            assert_eq!(refusal(&LIBRARY_P, &table[..11]), Some(21));
+            assert_eq!(refusal(&[5], &table[..11]), Some(8));
+        }
+    }
+    for length in [0, 1, 11, 13, 24] {
+        assert_eq!(refusal(&LIBRARY_P, &vec![1; length]), Some(21));
+    }
+    assert_eq!(open(&EXAMPLE_P[..53], &[], &[]), Err(1));
+    // The empty list too.
+    assert_eq!(open(&[], &[5], &[]), Err(21));
+    assert_eq!(open(&[], &[5], &[0; 12]), Err(22));
+    assert_eq!(open(&[], &[], &[0; 12]), Err(8));
+}
+
+/// #105: "over the C boundary the table is bytes, two per number, least first"; 17 stays last.
+#[test]
+fn the_table_over_the_c_boundary() {
+    let library = library_bytes(&LIBRARY_P);
+    let mut result = [1u8; 8];
+    let mut answer = |library: &[u8], table: &[u8], room: usize| {
+        let answer = preview_hand_run(&EXAMPLE_P, library, table, &mut result[..room]);
+        let written = if answer == 0 {
+            [9, 0, 0, 0, 9, 0, 0, 0]
+        } else {
+            [1; 8]
+        };
+        assert_eq!(result, written);
+        result = [1; 8];
+        answer
+    };
+    let today = table_bytes(&TODAY);
+    assert_eq!(
+        today,
+        [5, 0, 2, 0, 1, 0, 1, 0, 1, 0, 1, 0, 3, 0, 4, 0, 1, 0, 8, 0, 1, 0, 8, 0]
+    );
+    assert_eq!(answer(&library, &today, 8), 0);
+    let mut table = today.clone();
+    // 1000 is E8 03.
+    for (low, high, expected) in [
+        (0xE8, 0x03, 0),
+        (0xE9, 0x03, 150),
+        (0x03, 0xE8, 150),
+        (0, 0, 150),
+        (0, 1, 0),
+        (0, 4, 150),
+        (1, 4, 150),
+        (255, 255, 150),
+    ] {
+        for place in 0..12 {
+            table[2 * place] = low;
+            table[2 * place + 1] = high;
+            assert_eq!(answer(&library, &table, 8), expected);
+            let short = if expected == 0 { 145 } else { expected };
+            assert_eq!(answer(&library, &table, 7), short);
+            assert_eq!(answer(&library[..7], &table, 7), 136);
+            table[2 * place..2 * place + 2].copy_from_slice(&today[2 * place..2 * place + 2]);
+        }
+    }
+    for length in (0..30).filter(|length| *length != 24) {
+        assert_eq!(answer(&library, &[1; 30][..length], 7), 149);
+        assert_eq!(answer(&library[..7], &[1; 30][..length], 7), 136);
     }
 }

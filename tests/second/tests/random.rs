@@ -2,11 +2,11 @@
 
 use second::cases::*;
 use second::coordinator::call;
-use second::list::task_count;
+use second::list::{encode_instruction, task_count};
 use second::rng::Rng;
 use second::run::{
     at_its_end, entry_concerned, footprint_of, instruction_at, queue_of, search, test_start,
-    test_step, ENDED, RECORDS, STARTED, WAITING, WRITE,
+    test_step, ENDED, RECORDS, STARTED, WAITING, WEIGHTS, WRITE,
 };
 use second::*;
 
@@ -68,8 +68,10 @@ fn is_at_fan(run: &Run, task: usize) -> bool {
 fn random_order(rng: &mut Rng, bytes: &[u8], library: &[u32], met: &mut Met) {
     let strategy = rng.pick(&STRATEGIES);
     let any_percent = rng.pick(&[0, 20, 60]);
-    let hand = hand_run(bytes, library).unwrap();
-    let mut run = open(bytes, library).unwrap();
+    // #105: "Runs and their hand runs are compared under one table."
+    let table = random_table(rng);
+    let hand = hand_run(bytes, library, &table).unwrap();
+    let mut run = open(bytes, library, &table).unwrap();
     let mut accepted = 0;
     let mut last = 0;
     assert_demand_3(&run, &hand, accepted);
@@ -201,13 +203,10 @@ fn modes_on_random_runs() {
         let bytes = accepted_file(&mut rng);
         let library = fitting_library(&mut rng, &bytes);
         let strategy = rng.pick(&STRATEGIES);
-        let mut run = open(&bytes, &library).unwrap();
+        let mut run = open(&bytes, &library, &TODAY).unwrap();
         while let Some((kind, task)) = sensible_call(&mut rng, strategy, &run, 0) {
             let task = task as usize;
-            let spawning = match (kind, kind == 1 && !at_its_end(&run, task)) {
-                (1, true) => Some(instruction_at(&run, task)),
-                _ => None,
-            };
+            let spawning = (kind == 1).then(|| instruction_at(&run, task));
             assert_eq!(call(&mut run, kind, task as u32), Ok(()));
             if kind == 2 || run.records[task].fault != 0 {
                 continue;
@@ -274,7 +273,7 @@ fn searches_on_random_runs() {
         let bytes = accepted_file(&mut rng);
         let library = fitting_library(&mut rng, &bytes);
         let strategy = rng.pick(&STRATEGIES);
-        let mut run = open(&bytes, &library).unwrap();
+        let mut run = open(&bytes, &library, &TODAY).unwrap();
         while let Some((kind, task)) = sensible_call(&mut rng, strategy, &run, 0) {
             assert_eq!(call(&mut run, kind, task), Ok(()));
             for task in &run.order {
@@ -295,7 +294,7 @@ fn a_refusal_leaves_the_run_unchanged() {
         let mut rng = Rng::new(10_000 + seed);
         let bytes = accepted_file(&mut rng);
         let library = fitting_library(&mut rng, &bytes);
-        let mut run = open(&bytes, &library).unwrap();
+        let mut run = open(&bytes, &library, &TODAY).unwrap();
         let mut left = rng.below(60);
         while left > 0 && !run.order.is_empty() {
             left -= 1;
@@ -396,8 +395,8 @@ fn each_refusal_of_check_is_reached() {
             let bytes = damaged_list(&mut Rng::new(40_000 + seed), refusal);
             assert_eq!(check(&bytes), Err(refusal));
             assert_eq!(decode(&bytes), Err(refusal));
-            assert_eq!(open(&bytes, &[]), Err(refusal));
-            assert_eq!(hand_run(&bytes, &[]), Err(refusal));
+            assert_eq!(open(&bytes, &[], &TODAY), Err(refusal));
+            assert_eq!(hand_run(&bytes, &[], &TODAY), Err(refusal));
             assert_eq!(preview_check(&bytes), 128 + refusal);
             assert_eq!(
                 transcript(&bytes, &[], &[0, 0]),
@@ -480,7 +479,10 @@ fn transcripts_follow_the_calls() {
         assert!(last.starts_with(&format!("{accepted} ")));
         if last.ends_with(" 0") {
             let mut result = vec![0; library.len()];
-            assert_eq!(preview_hand_run(&jobs, &library, &mut result), 0);
+            assert_eq!(
+                preview_hand_run(&jobs, &library, &table_bytes(&TODAY), &mut result),
+                0
+            );
             let entries: Vec<String> = result
                 .chunks(4)
                 .map(|bytes| u32::from_le_bytes(bytes.try_into().unwrap()).to_string())
@@ -490,4 +492,97 @@ fn transcripts_follow_the_calls() {
     }
     assert!(half > 20);
     assert!(empty > 2);
+}
+
+/// #105: the same calls under today's numbers and under another table: all but the weights is the same,
+/// and each weight is what the calls of that job weigh by their kinds.
+#[test]
+fn weights_on_random_runs() {
+    let mut weighed = [0; WEIGHTS];
+    for seed in 0..600 {
+        let mut rng = Rng::new(90_000 + seed);
+        let bytes = accepted_file(&mut rng);
+        let library = fitting_library(&mut rng, &bytes);
+        let table = random_table(&mut rng);
+        let strategy = rng.pick(&STRATEGIES);
+        let mut run = open(&bytes, &library, &table).unwrap();
+        let mut today = open(&bytes, &library, &TODAY).unwrap();
+        // By job and by place in the table; a fan counts its children.
+        let mut kinds = vec![[0u64; WEIGHTS]; RECORDS];
+        let mut last = 0;
+        while !run.order.is_empty() {
+            let (kind, task) = next_call(&mut rng, strategy, &run, last, 20);
+            let (place, times) = match kind {
+                0 => (0, 1),
+                2 => (1, 1),
+                _ if !run.order.contains(&(task as usize)) || at_its_end(&run, task as usize) => {
+                    (0, 0)
+                }
+                _ => {
+                    let instruction = instruction_at(&run, task as usize);
+                    match encode_instruction(&instruction) {
+                        [9, _, _, children] => (2 + 9, children as u64),
+                        [code, ..] => (2 + code as usize, 1),
+                    }
+                }
+            };
+            let answer = call(&mut run, kind, task);
+            assert_eq!(call(&mut today, kind, task), answer);
+            if answer.is_ok() {
+                kinds[task as usize][place] += times;
+                last = task;
+            }
+        }
+        for (run, table) in [(&run, &table), (&today, &TODAY)] {
+            assert_eq!(run.table, *table);
+            let mut sum = 0;
+            for (record, kinds) in run.records.iter().zip(&kinds) {
+                let numbers = kinds.iter().zip(table);
+                let weight: u64 = numbers.map(|(times, number)| times * *number as u64).sum();
+                assert_eq!(record.weight, weight);
+                sum += weight;
+            }
+            assert_eq!(run.weight, sum);
+        }
+        for (sum, place) in weighed.iter_mut().zip(0..) {
+            *sum += kinds.iter().map(|kinds| kinds[place]).sum::<u64>();
+        }
+        run.table = TODAY;
+        run.weight = today.weight;
+        for (record, other) in run.records.iter_mut().zip(&today.records) {
+            record.weight = other.weight;
+        }
+        assert_eq!(run, today);
+    }
+    println!("weighed {weighed:?}");
+    assert!(weighed.iter().all(|count| *count > 100));
+}
+
+/// #105: tables are refused by their length before their numbers, and behind the library.
+#[test]
+fn bad_tables() {
+    for seed in 0..500 {
+        let mut rng = Rng::new(100_000 + seed);
+        let bytes = accepted_file(&mut rng);
+        let library = fitting_library(&mut rng, &bytes);
+        let table = bad_table(&mut rng);
+        let length = rng.pick(&[0, 1, 10, 11, 13, 15, 24]);
+        let other = [&table[..], &table].concat()[..length].to_vec();
+        for (library, table, refusal) in [
+            (&library[..], &table[..], 22),
+            (&library, &other, 21),
+            (&library[1..], &other, 8),
+            (&library[1..], &table, 8),
+            (&library[1..], &TODAY, 8),
+        ] {
+            assert_eq!(open(&bytes, library, table), Err(refusal));
+            assert_eq!(hand_run(&bytes, library, table), Err(refusal));
+            let (library, table) = (library_bytes(library), table_bytes(table));
+            let mut result = vec![7; 256];
+            let answer = preview_hand_run(&bytes, &library, &table, &mut result);
+            assert_eq!(answer, 128 + refusal);
+            assert_eq!(result, [7; 256]);
+        }
+        assert!(open(&bytes, &library, &random_table(&mut rng)).is_ok());
+    }
 }

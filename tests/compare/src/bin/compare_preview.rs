@@ -12,6 +12,8 @@ extern "C" {
         list_len: usize,
         library: *const u8,
         library_len: usize,
+        table: *const u8,
+        table_len: usize,
         result: *mut u8,
         result_len: usize,
     ) -> u32;

@@ -14,11 +14,11 @@ use Rattle.semantics.specs.Plan.{step}
 use Rattle.tables.specs.Children.{insert-all}
 use Rattle.arrays.specs.Rows.{row}
 use Rattle.tables.specs.Children.{with-rows}
-use Rattle.tables.specs.Grants.{grant-of, child-grant, grants-from}
+use Rattle.grants.specs.Grants.{grant-of, child-grant, grants-from}
 use Rattle.tables.specs.Children.{numbers, Fit, RowsOf}
 use Rattle.tables.specs.Numbers.{number-by}
-use Rattle.tables.specs.declared.Grant.the-variants as Granted
-use Rattle.tables.specs.declared.Granting.{Granting}
+use Rattle.grants.specs.declared.Grant.the-variants as Granted
+use Rattle.grants.specs.declared.Granting.{Granting}
 use Rattle.runtime.specs.declared.Run.{Run}
 use Rattle.runtime.specs.declared.Change.{Change}
 use Rattle.runtime.specs.declared.StepPlan.the-variants as Planned

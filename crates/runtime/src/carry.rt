@@ -7,6 +7,7 @@ ghost use Rattle.records.specs.Records.{passed, failed, holding, newborn};
 ghost use Rattle.runtime.specs.Changes.{kept, counted, SpawnedBy};
 ghost use Rattle.records.specs.Records.{child-record};
 use crate::Change;
+use grants::Grant;
 use records::failed;
 use records::holding;
 use records::newborn;
@@ -14,7 +15,6 @@ use records::passed;
 use semantics::Answer;
 use semantics::CallRefusal;
 use semantics::Record;
-use tables::Grant;
 use tasklist::Tables;
 
 fn wide(x: u16) -> u32
@@ -89,7 +89,7 @@ pub fn spawned(
     let row = arrays::row_of(modes, task);
     let seen = holding(own, 0, first);
     let registers = seen.registers;
-    let granting = tables::granted_all(tables, footprint as usize, registers, row, children);
+    let granting = grants::granted_all(tables, footprint as usize, registers, row, children);
     let grant = granting.grant;
     match grant {
         Grant::Denied(fault) => {

@@ -14,7 +14,7 @@ use Rattle.semantics.specs.Run.{Task, no-modes}
 use Rattle.semantics.specs.Access.{Access, access-fault}
 use Rattle.semantics.specs.Footprint.{Grant, denied, granted, targets, all-targets, merged, unless-denied, grant, child-modes}
 use Rattle.ahead.specs.Ahead.{access}
-use Rattle.tables.specs.Grants.{named-location, named-mode, spawner}
+use Rattle.grants.specs.Grants.{named-location, named-mode, spawner}
 
 -- the fault of an access, by the own mode and the mode asked for
 pub asked-beyond : (own asked : ℕ) → 2 < asked → 1 ≡ access-fault own asked

@@ -1,8 +1,8 @@
 -- One of the two modes is none, both are one, or they differ.
 -- Assumes nothing.
-use Rattle.tables.proofs.GrantLaws.{merged-first, merged-none, merged-common, merged-other}
-use Rattle.tables.proofs.footprint.merged_mode.Statement.{statement}
-use Rattle.tables.proofs.footprint.merged_mode.Tie as tie
+use Rattle.grants.proofs.GrantLaws.{merged-first, merged-none, merged-common, merged-other}
+use Rattle.grants.proofs.footprint.merged_mode.Statement.{statement}
+use Rattle.grants.proofs.footprint.merged_mode.Tie as tie
 
 returns : tie.Need-returns
 returns c = merged-first (c .before .args .earlier) (c .before .args .asked) (c .if1 .taken)

@@ -5,7 +5,7 @@ ghost use Rattle.tasklist.specs.TaskList.{footprint-of};
 ghost use Rattle.tasklist.specs.Tables.{list-of};
 ghost use Rattle.semantics.specs.Access.{access-fault};
 ghost use Rattle.semantics.specs.Footprint.{merged, child-modes};
-ghost use Rattle.tables.specs.Grants.{named-location, named-mode, spawner, grant-of, child-registers, child-grant, is-denied, grants-from};
+ghost use Rattle.grants.specs.Grants.{named-location, named-mode, spawner, grant-of, child-registers, child-grant, is-denied, grants-from};
 ghost use Rattle.semantics.specs.Run.{no-modes};
 ghost use Rattle.semantics.specs.Footprint.{granted};
 use crate::Grant;

@@ -14,10 +14,10 @@ use Rattle.listing.proofs.AccessLaws.{footprint-size-is, line-is}
 use Rattle.semantics.specs.Run.{no-modes}
 use Rattle.semantics.specs.Access.{access-fault}
 use Rattle.semantics.specs.Footprint.{merged}
-use Rattle.tables.proofs.GrantLaws.{Given, given-none, given-more, given-denied, given-all}
+use Rattle.grants.proofs.GrantLaws.{Given, given-none, given-more, given-denied, given-all}
 use borrow.Author.Needs.{needs}
-use Rattle.tables.proofs.footprint.granted.Statement.{statement}
-use Rattle.tables.proofs.footprint.granted.Tie as tie
+use Rattle.grants.proofs.footprint.granted.Statement.{statement}
+use Rattle.grants.proofs.footprint.granted.Tie as tie
 
 abbrev Inv-loop : tie.InvT-loop
 Inv-loop footprint registers own tables size modes₀ j₀ modes j = (j ≤ size) × (size ≡ length (footprint-of (list-of tables) footprint)) × (size ≤ 8) × (0 < size → footprint < 32) × Given registers own (footprint-of (list-of tables) footprint) modes j

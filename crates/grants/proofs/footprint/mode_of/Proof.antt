@@ -1,8 +1,8 @@
 -- By the kind.
 -- Assumes nothing.
-use Rattle.tables.proofs.GrantLaws.{kind-mode, kind-none}
-use Rattle.tables.proofs.footprint.mode_of.Statement.{statement}
-use Rattle.tables.proofs.footprint.mode_of.Tie as tie
+use Rattle.grants.proofs.GrantLaws.{kind-mode, kind-none}
+use Rattle.grants.proofs.footprint.mode_of.Statement.{statement}
+use Rattle.grants.proofs.footprint.mode_of.Tie as tie
 
 returns : tie.Need-returns
 returns c = kind-mode (c .before .args .line) 0 (c .if1 .taken)

@@ -5,8 +5,8 @@ use mathlib.Core.Path.{sym, ap}
 use native.Mathlib.Omega.{arith}
 use lib.ListN.{length, getD, List·getD-eq-default}
 use borrow.Author.Needs.{needs}
-use Rattle.tables.proofs.footprint.register_at.Statement.{statement}
-use Rattle.tables.proofs.footprint.register_at.Tie as tie
+use Rattle.grants.proofs.footprint.register_at.Statement.{statement}
+use Rattle.grants.proofs.footprint.register_at.Tie as tie
 
 wide-requires : tie.Need-wide-requires
 wide-requires c κs = search needs

@@ -6,9 +6,9 @@ use lib.ListN.{getD, set}
 use Rattle.tasklist.specs.declared.Line.{Line}
 use Rattle.semantics.specs.Run.{Task}
 use Rattle.semantics.specs.Footprint.{Grant as Answer, denied, granted, child-modes}
-use Rattle.tables.specs.declared.Grant.{Grant}
-use Rattle.tables.specs.declared.Grant.the-variants.{Denied, Granted}
-use Rattle.tables.specs.declared.Granting.{Granting}
+use Rattle.grants.specs.declared.Grant.{Grant}
+use Rattle.grants.specs.declared.Grant.the-variants.{Denied, Granted}
+use Rattle.grants.specs.declared.Granting.{Granting}
 
 -- the location and the mode of a line, as in the model's `targets`
 unfoldable pub named-location : List ℕ → Line → ℕ

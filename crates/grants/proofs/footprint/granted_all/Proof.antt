@@ -6,11 +6,11 @@ use native.Mathlib.Omega.{arith}
 use Rattle.tasklist.specs.TaskList.{footprint-of}
 use Rattle.tasklist.specs.Tables.{list-of}
 use Rattle.semantics.specs.Run.{no-modes}
-use Rattle.tables.specs.Grants.{grant-of, child-grant}
-use Rattle.tables.proofs.ChildLaws.{child-given, Tested, tested-none, tested-more, tested-denied, tested-all}
+use Rattle.grants.specs.Grants.{grant-of, child-grant}
+use Rattle.grants.proofs.TestedLaws.{child-given, Tested, tested-none, tested-more, tested-denied, tested-all}
 use borrow.Author.Needs.{needs}
-use Rattle.tables.proofs.footprint.granted_all.Statement.{statement}
-use Rattle.tables.proofs.footprint.granted_all.Tie as tie
+use Rattle.grants.proofs.footprint.granted_all.Statement.{statement}
+use Rattle.grants.proofs.footprint.granted_all.Tie as tie
 
 abbrev Inv-loop : tie.InvT-loop
 Inv-loop tables footprint registers own children given₀ i₀ given i =

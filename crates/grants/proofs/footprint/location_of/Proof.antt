@@ -2,10 +2,10 @@
 -- Assumes nothing.
 use mathlib.Core.Path.{_∙_}
 use native.Mathlib.Omega.{arith}
-use Rattle.tables.proofs.GrantLaws.{names-value, names-register, names-none}
+use Rattle.grants.proofs.GrantLaws.{names-value, names-register, names-none}
 use borrow.Author.Needs.{needs}
-use Rattle.tables.proofs.footprint.location_of.Statement.{statement}
-use Rattle.tables.proofs.footprint.location_of.Tie as tie
+use Rattle.grants.proofs.footprint.location_of.Statement.{statement}
+use Rattle.grants.proofs.footprint.location_of.Tie as tie
 
 wide-requires : tie.Need-wide-requires
 wide-requires c κs = search needs

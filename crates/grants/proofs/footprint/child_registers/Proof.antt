@@ -1,9 +1,9 @@
 -- The first, or another.
 -- Assumes nothing.
-use Rattle.tables.proofs.ChildLaws.{registers-first, registers-later}
+use Rattle.grants.proofs.TestedLaws.{registers-first, registers-later}
 use borrow.Author.Needs.{needs}
-use Rattle.tables.proofs.footprint.child_registers.Statement.{statement}
-use Rattle.tables.proofs.footprint.child_registers.Tie as tie
+use Rattle.grants.proofs.footprint.child_registers.Statement.{statement}
+use Rattle.grants.proofs.footprint.child_registers.Tie as tie
 
 returns : tie.Need-returns
 returns c = registers-first (c .before .args .i) (c .before .args .registers) (c .if1 .taken)

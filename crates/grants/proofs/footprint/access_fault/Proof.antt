@@ -3,9 +3,9 @@
 use mathlib.Core.Path.{sym, ap, _∙_}
 use native.Mathlib.Omega.{arith}
 use Rattle.semantics.specs.Access.{access-fault}
-use Rattle.tables.proofs.GrantLaws.{asked-beyond, own-read, own-read-asked-write, own-write, own-other}
-use Rattle.tables.proofs.footprint.access_fault.Statement.{statement}
-use Rattle.tables.proofs.footprint.access_fault.Tie as tie
+use Rattle.grants.proofs.GrantLaws.{asked-beyond, own-read, own-read-asked-write, own-write, own-other}
+use Rattle.grants.proofs.footprint.access_fault.Statement.{statement}
+use Rattle.grants.proofs.footprint.access_fault.Tie as tie
 
 returns : tie.Need-returns
 returns c = asked-beyond (c .before .args .own) (c .before .args .asked) (omega arith)

@@ -1,5 +1,5 @@
--- The order's edits in the model's words: for a distinct order an insertion ahead of a task and its removal are splices at
--- its place, and the place found is the model's. Assumes nothing.
+-- The order's edits in the model's words: in a distinct order a splice for a task happens at its place, a removal is such a
+-- splice, and the place found is the model's. Assumes nothing.
 use Prim.Native.Nat.{ℕ, zero, suc, _<_}
 use mathlib.Core.Path.{_≡_, refl, sym, ap, subst, _∙_}
 use mathlib.Core.List.{List, [], _∷_, _++_}
@@ -7,7 +7,6 @@ use mathlib.Core.Bool.{Bool, true, false, cond, _||_}
 use mathlib.Core.Logic.{inl, inr}
 use native.Mathlib.Omega.{arith}
 use lib.ListN.{length, take, drop, getD}
-use lib.Seq.{drop-cons}
 use lib.Dec.{eqb}
 use borrow.Author.Tests.{eqb-true}
 use Rattle.semantics.specs.Access.{ahead}
@@ -16,7 +15,7 @@ use Rattle.semantics.specs.Sound.{In, Distinct}
 use Rattle.semantics.proofs.Order.{splice-same, splice-other, splice-absent}
 use Rattle.arrays.specs.declared.Place.{Place}
 use Rattle.arrays.specs.declared.Place.the-variants.{At, Absent}
-use Rattle.arrays.specs.Places.{later, place-of, insert-at, without}
+use Rattle.arrays.specs.Places.{later, place-of, without}
 
 getD-in : (xs : List ℕ) (i : ℕ) → i < length xs → In (getD xs i 0) xs
 getD-in [] i h = let z : ⊥ = omega arith in absurd z
@@ -33,14 +32,6 @@ splice-at n new (k ∷ ks) zero d h e =
 splice-at n new (k ∷ ks) (suc at) d h e =
     splice-other n k new ks (λ q. d .0 (subst (λ x. In x ks) (e ∙ sym q) (getD-in ks at (omega arith)))) ∙
     ap (λ l. k ∷ l) (splice-at n new ks at (d .1) (omega arith) e)
-
--- directly ahead of task n
-pub insert-splice : (n task : ℕ) (xs : List ℕ) (at : ℕ) → Distinct xs → at < length xs → getD xs at 0 ≡ n
-    → insert-at at task xs ≡ splice n (task ∷ n ∷ []) xs
-unfolding insert-at
-insert-splice n task xs at d h e =
-    ap (λ l. take at xs ++ task ∷ l) (drop-cons xs at 0 h ∙ ap (λ m. m ∷ drop (suc at) xs) e) ∙
-    sym (splice-at n (task ∷ n ∷ []) xs at d h e)
 
 pub without-splice : (n : ℕ) (xs : List ℕ) (at : ℕ) → Distinct xs → at < length xs → getD xs at 0 ≡ n
     → without at xs ≡ splice n [] xs

@@ -18,8 +18,8 @@ use Rattle.semantics.specs.Call.{Call, after-all}
 use Rattle.semantics.proofs.Asked.{AskedCase, denied, given, asked-case}
 use Rattle.runtime.specs.View.{model, context-of, SoundRun, blank-run}
 use Rattle.runtime.specs.Calls.{CallsMade}
-use Rattle.runtime.specs.Asked.{OpenedAs}
-use Rattle.sequence.specs.Replays.{ReplayedAs}
+use Rattle.runtime.specs.Asked.{Unopened, OpenedAs}
+use Rattle.sequence.specs.Replays.{Replayed, ReplayedAs}
 use Rattle.sequence.proofs.ReplayLaws.{still-unopened, now-fresh}
 use Rattle.benchlib.specs.Counts.{calls-in, left-in, replay-asked}
 
@@ -61,7 +61,7 @@ module _ (bytes memory weights : List ℕ) (calls : List Call) (o : Opened) wher
   pub replay-told :
       ReplayedAs bytes memory weights calls (open-asked bytes memory weights) o
       → o .run .calls ≡ calls-in (replay-asked bytes memory weights calls)
-  unfolding open-asked replay-asked
+  unfolding open-asked replay-asked calls-in
   replay-told h = by-case (asked-case bytes memory weights)
     where
       replayed : Asked Semantics.Run → Type 0
@@ -69,14 +69,14 @@ module _ (bytes memory weights : List ℕ) (calls : List Call) (o : Opened) wher
 
       by-case : AskedCase bytes memory weights → o .run .calls ≡ calls-in (with-list (decode bytes) memory weights after-calls)
       by-case (denied k some e) =
-          let u = subst replayed (e Semantics.Run (λ c. initial c memory)) h in
-          ap (λ r. r .calls) (u .run) ∙ blank-calls ∙ (unfold calls-in in refl) ∙ ap calls-in (sym (e Semantics.Run after-calls))
+          let u : Unopened k o = subst replayed (e Semantics.Run (λ c. initial c memory)) h in
+          ap (λ r. r .calls) (u .run) ∙ blank-calls ∙ ap calls-in (sym (e Semantics.Run after-calls))
       by-case (given l q fits ok e) =
-          let w = subst replayed (e Semantics.Run (λ c. initial c memory)) h in
+          let w : Replayed bytes memory weights calls o = subst replayed (e Semantics.Run (λ c. initial c memory)) h in
           let same : list-of (o .run .tables) ≡ l = accepted-same (list-of (o .run .tables)) l (sym (w .list) ∙ q) in
           let under : context-of (o .run) ≡ context l weights = λ i. context (same i) (w .table i) in
           sym (model-calls (o .run)) ∙ ap (λ r. r .calls) (w .run) ∙ ap (λ c. after-calls c .calls) under
-          ∙ (unfold calls-in in refl) ∙ ap calls-in (sym (e Semantics.Run after-calls))
+          ∙ ap calls-in (sym (e Semantics.Run after-calls))
 
   module _ (h : OpenedAs bytes weights (open-asked bytes memory weights) o) where
     -- no run was opened

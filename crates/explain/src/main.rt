@@ -13,7 +13,7 @@ use words::say;
 
 // Prints what a file's bytes hold.
 fn explain(bytes: &[u8]) {
-    let reading = tasklist::read(bytes);
+    let reading = reader::read(bytes);
     let answer = reading.answer;
     let tables = reading.tables;
     match answer {

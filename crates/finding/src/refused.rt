@@ -10,7 +10,7 @@ pub fn whole(bytes: &[u8]) -> bool
     if bytes.len() == 0 {
         return false;
     }
-    match tasklist::check(bytes) {
+    match reader::check(bytes) {
         Checked::Count(_) => true,
         Checked::Refused(refusal) => tasklist::refusal_number(refusal) != 1,
     }

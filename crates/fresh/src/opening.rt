@@ -66,7 +66,7 @@ fn table_of(numbers: &[u16]) -> [u16; 12]
 pub fn open(list: &[u8], memory: &[u32], weights: &[u16]) -> Opened
     ensures { λ r. ⌜ OpenedAs (now (list .entry)) (now (weights .entry)) (open-asked (now (list .entry)) (now (memory .entry)) (now (weights .entry))) r ⌝ }
 {
-    let reading = tasklist::read(list);
+    let reading = reader::read(list);
     let answer = reading.answer;
     match answer {
         Checked::Refused(k) => refusal(OpenAnswer::Refused { refusal: k }),

@@ -33,7 +33,7 @@ fn check_file(name: &[u8]) {
         print(Checked::Refused(Refusal::Incomplete));
         return;
     }
-    print(tasklist::check(&bytes[..n]));
+    print(reader::check(&bytes[..n]));
 }
 
 fn main() {

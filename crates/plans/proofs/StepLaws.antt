@@ -34,7 +34,7 @@ use Rattle.tables.specs.Children.{seen-from}
 use Rattle.arrays.proofs.RowLaws.{row-past}
 use Rattle.tables.proofs.ChildLaws.{seen-alone, seen-fan}
 use Rattle.ahead.proofs.SearchLaws.{outcome-by}
-use Rattle.tables.proofs.GrantLaws.{own-other}
+use Rattle.grants.proofs.GrantLaws.{own-other}
 use Rattle.plans.specs.declared.Access.the-variants as Found
 use Rattle.plans.specs.declared.StepPlan.{StepPlan}
 use Rattle.plans.specs.declared.StepPlan.the-variants as Planned

@@ -32,7 +32,7 @@ fn access_of<'a>(
     ensures { λ r. ⌜ AccessIn (now (order .entry)) (now (modes .entry)) task place location asked r ⌝ }
 {
     let own = arrays::mode_at(modes, task, location);
-    let fault = tables::access_fault(own, asked);
+    let fault = grants::access_fault(own, asked);
     if fault != 0 {
         return Access::Fault { fault };
     }
@@ -64,7 +64,7 @@ fn load_plan<'a>(
     requires { ⌜ task < 128 ⌝ }
     ensures { λ r. ⌜ PlansIn (now (order .entry)) (now (modes .entry)) memory registers task place (Load target from) r ⌝ }
 {
-    let location = tables::register_at(registers, from) as usize;
+    let location = grants::register_at(registers, from) as usize;
     let found = access_of(order, modes, task, place, location, 1);
     match found {
         Access::Fault { fault } => StepPlan::Fault { fault },
@@ -89,14 +89,14 @@ fn store_plan<'a>(
     requires { ⌜ task < 128 ⌝ }
     ensures { λ r. ⌜ ((m : List ℕ) → PlansIn (now (order .entry)) (now (modes .entry)) m registers task place (Store to source) r) ⌝ }
 {
-    let location = tables::register_at(registers, to) as usize;
+    let location = grants::register_at(registers, to) as usize;
     let found = access_of(order, modes, task, place, location, 2);
     match found {
         Access::Fault { fault } => StepPlan::Fault { fault },
         Access::Held { refusal } => StepPlan::Held { refusal },
         Access::Free => StepPlan::Store {
             location,
-            value: tables::register_at(registers, source),
+            value: grants::register_at(registers, source),
         },
     }
 }
@@ -113,7 +113,7 @@ fn wait_plan<'a>(
     requires { ⌜ task < 128 ⌝ }
     ensures { λ r. ⌜ ((m : List ℕ) → PlansIn (now (order .entry)) (now (modes .entry)) m registers task place (Wait at) r) ⌝ }
 {
-    let location = tables::register_at(registers, at) as usize;
+    let location = grants::register_at(registers, at) as usize;
     let asked = arrays::mode_at(modes, task, location);
     let found = access_of(order, modes, task, place, location, asked);
     match found {
@@ -137,8 +137,8 @@ fn free_plan(registers: [u32; 4], instruction: Instruction) -> StepPlan
             left,
             right,
         } => {
-            let a = tables::register_at(registers, left);
-            let b = tables::register_at(registers, right);
+            let a = grants::register_at(registers, left);
+            let b = grants::register_at(registers, right);
             StepPlan::Assign {
                 target,
                 value: std::num::wrapping_add_u32(a, b),
@@ -149,8 +149,8 @@ fn free_plan(registers: [u32; 4], instruction: Instruction) -> StepPlan
             left,
             right,
         } => {
-            let a = tables::register_at(registers, left);
-            let b = tables::register_at(registers, right);
+            let a = grants::register_at(registers, left);
+            let b = grants::register_at(registers, right);
             StepPlan::Assign {
                 target,
                 value: difference(a, b),
@@ -161,21 +161,21 @@ fn free_plan(registers: [u32; 4], instruction: Instruction) -> StepPlan
             left,
             right,
         } => {
-            let a = tables::register_at(registers, left);
-            let b = tables::register_at(registers, right);
+            let a = grants::register_at(registers, left);
+            let b = grants::register_at(registers, right);
             StepPlan::Assign {
                 target,
                 value: less(a, b),
             }
         }
         Instruction::Skip { test, length } => {
-            let a = tables::register_at(registers, test);
+            let a = grants::register_at(registers, test);
             StepPlan::Pass {
                 over: passed_over(a, length),
             }
         }
         Instruction::Spawn { body, footprint } => {
-            let own = tables::register_at(registers, 0);
+            let own = grants::register_at(registers, 0);
             StepPlan::Make {
                 body,
                 footprint,

@@ -33,7 +33,7 @@ fn refused(refusal: Refusal) -> u32
 pub extern "C" fn preview_check(list: &[u8]) -> u32
     ensures { λ r. ⌜ r ≡ check-over-c (now (list .entry)) ⌝ }
 {
-    match tasklist::check(list) {
+    match reader::check(list) {
         Checked::Count(n) => wide(n),
         Checked::Refused(k) => refused(k),
     }

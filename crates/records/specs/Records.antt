@@ -2,7 +2,7 @@
 use Prim.Native.Nat.{ℕ, _+_, _%_, _^_}
 use lib.ListN.{set}
 use Rattle.semantics.specs.declared.Record.{Record}
-use Rattle.tables.specs.Grants.{child-registers}
+use Rattle.grants.specs.Grants.{child-registers}
 
 -- a record with another state
 abbrev pub with-state : ℕ → Record → Record

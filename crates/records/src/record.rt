@@ -80,7 +80,7 @@ pub fn child_record(made: Record, i: u32) -> Record
     ensures { λ r. ⌜ r ≡ child-record i made ⌝ }
 {
     let before = made.registers;
-    let registers = tables::child_registers(before, i);
+    let registers = grants::child_registers(before, i);
     let mut next = made;
     next.registers = registers;
     next

@@ -26,10 +26,10 @@ use Rattle.semantics.proofs.Bounds.{room}
 use Rattle.semantics.proofs.Valid.{number-above, made-future, made-below}
 use Rattle.tables.specs.Children.{insert-all, with-rows, seen-from, numbers, Fit, RowsOf}
 use Rattle.arrays.specs.Rows.{row, with}
-use Rattle.tables.specs.Grants.{granted-by, grant-of, child-registers, child-grant, grants-from}
+use Rattle.grants.specs.Grants.{granted-by, grant-of, child-registers, child-grant, grants-from}
 use Rattle.tables.specs.Numbers.{number-by}
-use Rattle.tables.specs.declared.Grant.the-variants as Granted
-use Rattle.tables.specs.declared.Granting.{Granting}
+use Rattle.grants.specs.declared.Grant.the-variants as Granted
+use Rattle.grants.specs.declared.Granting.{Granting}
 use Rattle.arrays.proofs.RowLaws.{with-length, row-with, row-with-other}
 use Rattle.tables.proofs.NumberLaws.{number-holds}
 use Rattle.tables.proofs.ChildLaws.{modes-in, list-from, child-length, given, born, AllBorn, children-denied, children-granted, insert-all-splice}

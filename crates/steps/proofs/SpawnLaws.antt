@@ -13,10 +13,10 @@ use Rattle.semantics.specs.Footprint.{granted}
 use Rattle.semantics.specs.Plan.{step}
 use Rattle.tables.specs.Children.{insert-all, with-rows, numbers, Fit, RowsOf}
 use Rattle.arrays.specs.Rows.{row}
-use Rattle.tables.specs.Grants.{grant-of, child-grant, grants-from}
+use Rattle.grants.specs.Grants.{grant-of, child-grant, grants-from}
 use Rattle.tables.specs.Numbers.{number-by}
-use Rattle.tables.specs.declared.Grant.the-variants as Granted
-use Rattle.tables.specs.declared.Granting.{Granting}
+use Rattle.grants.specs.declared.Grant.the-variants as Granted
+use Rattle.grants.specs.declared.Granting.{Granting}
 use Rattle.records.specs.Records.{passed, failed, holding, newborn}
 use Rattle.plans.specs.declared.StepPlan.the-variants as Planned
 use Rattle.plans.specs.View.{Parts, SoundRun, Placed, record-of}

@@ -3,13 +3,13 @@ ghost use Prim.Native.Nat.{_<_};
 ghost use Rattle.steps.specs.Stepping.{SpawnedBy};
 use changes::Change;
 use changes::changed;
+use grants::Grant;
 use records::failed;
 use records::holding;
 use records::newborn;
 use records::passed;
 use semantics::Answer;
 use semantics::Record;
-use tables::Grant;
 use tasklist::Tables;
 
 // So many tasks are made, or none: "A spawn that faults has no child."; request 104: "If any child would fault, in order of
@@ -34,7 +34,7 @@ pub fn spawned(
     let row = arrays::row_of(modes, task);
     let seen = holding(own, 0, first);
     let registers = seen.registers;
-    let granting = tables::granted_all(tables, footprint as usize, registers, row, children);
+    let granting = grants::granted_all(tables, footprint as usize, registers, row, children);
     let grant = granting.grant;
     match grant {
         Grant::Denied(fault) => {

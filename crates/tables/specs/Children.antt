@@ -5,7 +5,7 @@ use mathlib.Core.List.{List, [], _∷_}
 use Rattle.tasklist.specs.declared.Line.{Line}
 use Rattle.semantics.specs.Run.{Task}
 use Rattle.semantics.specs.Footprint.{granted}
-use Rattle.tables.specs.Grants.{child-registers, child-grant}
+use Rattle.grants.specs.Grants.{child-registers, child-grant}
 use Rattle.arrays.specs.Places.{insert-at}
 use Rattle.arrays.specs.Rows.{with}
 

@@ -1,4 +1,3 @@
 -- The definitions that the promises of this crate cite.
-pub mod Grants
 pub mod Children
 pub mod Numbers

@@ -7,15 +7,15 @@ ghost use lib.ListN.{length, take};
 ghost use Rattle.tasklist.specs.TaskList.{footprint-of};
 ghost use Rattle.tasklist.specs.Tables.{list-of};
 ghost use Rattle.semantics.specs.Footprint.{granted};
-ghost use Rattle.tables.specs.Grants.{child-grant};
+ghost use Rattle.grants.specs.Grants.{child-grant};
 ghost use Rattle.tables.specs.Children.{Fit, RowsOf};
 ghost use Rattle.tables.specs.Children.{insert-all};
 ghost use Rattle.tables.specs.Children.{with-rows};
-use crate::footprint::child_registers;
-use crate::footprint::granted;
 use arrays::insert;
 use arrays::put_row;
 use arrays::wide;
+use grants::child_registers;
+use grants::granted;
 use tasklist::Tables;
 
 // All children have a number below 128 and a place in the order.

@@ -1,8 +1,5 @@
 -- Laws of the definitions, and the cases of document 01 that are theorems here.
 pub mod Cases
-pub mod FieldLaws
-pub mod InstructionLaws
-pub mod RowLaws
 pub mod WriterLaws
 pub mod PlaceLaws
 pub mod ReaderLaws

@@ -1,10 +1,10 @@
 -- Laws of the whole list: what each stage of the reader tells of `decode`.
-use Prim.Native.Nat.{ℕ, zero, suc, _+_, _≤_, _<_, min}
-use mathlib.Core.Path.{_≡_, refl, sym, ap, _∙_, subst}
+use Prim.Native.Nat.{ℕ, _≤_, _<_}
+use mathlib.Core.Path.{_≡_, refl, sym, ap, _∙_}
 use mathlib.Core.List.{List, [], _∷_}
 use native.Mathlib.Omega.{arith}
-use lib.ListN.{length, getD, replicate}
-use borrow.Author.Tests.{le-leb, lt-leb}
+use lib.ListN.{length}
+use borrow.Author.Tests.{le-leb}
 use Rattle.tasklist.specs.declared.Header.{Header}
 use Rattle.tasklist.specs.declared.Line.{Line}
 use Rattle.tasklist.specs.declared.Instruction.{Instruction}
@@ -12,10 +12,7 @@ use Rattle.tasklist.specs.TaskList.{TaskList, total, count-body, count-f
 use Rattle.tasklist.specs.Fields.{Taken, bad, took, and-then, field, is-tag, tag, in-range, number, counted, many, row}
 use Rattle.tasklist.specs.Decode.{head-numbers, head, footprint, body, list-behind, refused, accepted, sized, finish, empty-list, decode}
 use Rattle.tasklist.specs.Encode.{marked}
-use Rattle.tasklist.specs.declared.Tables.{Tables}
-use Rattle.tasklist.specs.declared.Checked.the-variants.{Count}
-use Rattle.tasklist.specs.Tables.{rows, list-of, blank-tables, capped, Holds}
-use Rattle.tasklist.specs.Answers.{ReadAs, gives}
+use Rattle.tasklist.specs.Tables.{capped}
 use Rattle.tasklist.proofs.TakenLaws.{split, Number, number-range}
 
 -- the head's numbers in their ranges
@@ -121,49 +118,6 @@ module _ (h : Header) (b : List ℕ) where
           go (x ∷ r) k = let z : ⊥ = omega arith in absurd z
 
 module _ (l : TaskList) where
-  pub sized-many : 128 < capped (task-count l 0) → sized l ≡ refused 7
-  unfolding sized
-  sized-many h = rw (lt-leb (task-count l 0) 128 (omega arith))
-
   pub sized-few : capped (task-count l 0) ≤ 128 → sized l ≡ accepted l
   unfolding sized
   sized-few h = rw (le-leb (task-count l 0) 128 (omega arith))
-
--- a reading of tables whose counts are right
-pub accepted-reading : (t : Tables) (n : ℕ) → n ≡ capped (task-count (list-of t) 0) → n ≤ 128
-    → ((s : ℕ) → getD (t .counts) s 1 ≡ capped (task-count (list-of t) s))
-    → ReadAs (sized (list-of t)) (record { answer = Count n; tables = t })
-accepted-reading t n e h counts =
-    let few : capped (task-count (list-of t) 0) ≤ 128 = omega arith in
-    let same : n ≡ task-count (list-of t) 0 = omega arith in
-    let w : ReadAs (accepted (list-of t)) (record { answer = Count n; tables = t }) =
-    record { answer = ap gives same; tables = record { list = refl; counts = counts } } in
-    rw (sized-few (list-of t) few) w
-
--- blank tables with one location and one body hold the empty list
-abbrev one-of-each : Tables → Tables
-one-of-each t =
-    record {
-      locations = 1;
-      footprints = t .footprints;
-      bodies = 1;
-      widths = t .widths;
-      lines = t .lines;
-      sizes = t .sizes;
-      cells = t .cells;
-      counts = t .counts;
-    }
-
-ones : (n s : ℕ) → getD {A = ℕ} (replicate n 1) s 1 ≡ 1
-ones zero s = refl
-ones (suc n) zero = refl
-ones (suc n) (suc s) = ones n s
-
-blank-holds : Holds (one-of-each blank-tables) empty-list
-unfolding blank-tables list-of rows task-count counts count-body total
-blank-holds = record { list = refl; counts = λ s. ones 32 s ∙ sym (ap capped (ones 1 s)) }
-
-pub empty-reading : (t : Tables) → t ≡ blank-tables → ReadAs (accepted empty-list) (record { answer = Count 1; tables = one-of-each t })
-unfolding task-count counts count-body total
-empty-reading t e =
-    record { answer = refl; tables = subst (λ (u : Tables). Holds (one-of-each u) empty-list) (sym e) blank-holds }

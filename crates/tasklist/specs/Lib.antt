@@ -6,4 +6,3 @@ pub mod Encode
 pub mod Accepted
 pub mod Tables
 pub mod Answers
-pub mod Positions

@@ -1,5 +1,5 @@
-// Job lists: the reader of document 01's binary format, and the tables that a read list is kept in. What is asked of the tables
-// stands above, in `listing`, and the writer in `writer`; the runtime above them uses promises only.
+// Job lists: document 01's binary format, the tables that a read list is kept in, and the task counts. The reader stands above, in
+// `taking` and `reader`, what is asked of the tables in `listing`, the writer in `writer`; the runtime uses promises only.
 
 // One instruction of a task body (document 01: sheet), one case for each of the ten forms.
 pub enum Instruction {
@@ -132,36 +132,6 @@ pub enum Written {
     Short,
 }
 
-// The position behind a taken field, or why it is refused.
-pub enum Next {
-    Bad(Refusal),
-    At(usize),
-}
-
-// A number and the position behind it.
-pub enum NumberTaken {
-    Bad(Refusal),
-    Took(u8, usize),
-}
-
-// A footprint's line and the position behind it.
-pub enum LineTaken {
-    Bad(Refusal),
-    Took(Line, usize),
-}
-
-// An instruction and the position behind it.
-pub enum InstructionTaken {
-    Bad(Refusal),
-    Took(Instruction, usize),
-}
-
-// What four bytes say, where they are an instruction that passes its test.
-pub enum Form {
-    Unknown,
-    Known(Instruction),
-}
-
 // The head's numbers.
 pub struct Header {
     pub locations: u8,
@@ -169,35 +139,12 @@ pub struct Header {
     pub bodies: u8,
 }
 
-// The head and the position behind it.
-pub enum HeadTaken {
-    Bad(Refusal),
-    Took(Header, usize),
-}
-
-// The footprints' tables and the position behind them.
-pub struct Footprints {
-    pub end: Next,
-    pub widths: [u8; 32],
-    pub lines: [Line; 256],
-}
-
-// The bodies' tables and the position behind them.
-pub struct Bodies {
-    pub end: Next,
-    pub sizes: [u8; 32],
-    pub cells: [Cell; 1024],
-}
-
+mod answers;
 mod counts;
-mod fields;
-mod instructions;
-mod reader;
 
+pub use answers::blank;
+pub use answers::refusal_number;
 pub use counts::added;
 pub use counts::clamped;
 pub use counts::count_at;
-pub use reader::blank;
-pub use reader::check;
-pub use reader::read;
-pub use reader::refusal_number;
+pub use counts::task_counts;

@@ -15,7 +15,7 @@ use Rattle.semantics.specs.Run.{Context, context, fixed-weights, initial}
 use Rattle.semantics.specs.Run as Semantics
 use Rattle.semantics.specs.Call.{after-all}
 use Rattle.semantics.specs.Operations.{Asked, with-list, open-asked}
-use Rattle.semantics.proofs.Asked.{AskedCase, denied, given, asked-case}
+use Rattle.semantics.proofs.Asked.{AskedCase, denied, given as opens, asked-case}
 use Rattle.runtime.specs.declared.Run.{Run}
 use Rattle.runtime.specs.declared.Opened.{Opened}
 use Rattle.runtime.specs.View.{model, context-of, SoundRun}
@@ -185,5 +185,5 @@ prints-the-transcript jobs library o h pieces shown t = by-case (asked-case jobs
     by-case : AskedCase jobs memory fixed-weights → shown ≡ printed (with-list (decode jobs) memory fixed-weights lines)
     by-case (denied k some e) =
         refusal k some (subst opened (e Semantics.Run (λ c. initial c memory)) h) ∙ ap printed (sym (e (List ℕ) lines))
-    by-case (given l q fits ok e) =
+    by-case (opens l q fits ok e) =
         running l q (subst opened (e Semantics.Run (λ c. initial c memory)) h) ∙ ap printed (sym (e (List ℕ) lines))

@@ -15,17 +15,20 @@ use Rattle.sequence.proofs.replay.Reads as replay-reads
 todays-weights-requires : tie.Need-todays-weights-requires
 todays-weights-requires c κs = search needs
 
+slice-aggregate-replay : tie.Need-slice-aggregate-replay
+slice-aggregate-replay c = search needs
+
 replay-requires : tie.Need-replay-requires
 replay-requires c κs = search needs
 
 returns : tie.Need-returns
 returns c =
-    let a = c .before .before .before .before .before .before .args in
+    let a = c .before .before .before .before .before .before .before .args in
     let done = c .replay in
     let calls = calls-of (now (a .kinds)) (now (a .tasks)) in
     replay-told (now (a .list)) (now (a .memory)) fixed-weights calls (done .result)
     (subst (λ ws. ReplayedAs (now (a .list)) (now (a .memory)) ws calls (open-asked (now (a .list)) (now (a .memory)) ws) (done .result))
-    (c .before .todays-weights .ensures) (done .ensures))
+    (c .before .before .todays-weights .ensures) (done .ensures))
 
 pub bench-replay-spec : {M : Type 1} → statement M
-bench-replay-spec = tie.close (tie.spec todays-weights-requires replay-requires returns)
+bench-replay-spec = tie.close (tie.spec todays-weights-requires slice-aggregate-replay replay-requires returns)

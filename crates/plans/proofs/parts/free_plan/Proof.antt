@@ -14,7 +14,7 @@ use Rattle.records.proofs.difference.Reads as difference-reads
 use Rattle.records.proofs.less.Reads as less-reads
 use Rattle.records.proofs.passed_over.Reads as passed-over-reads
 use Rattle.std.proofs.num.wrapping_add_u32.Reads as wrapping-add-u32-reads
-use Rattle.tables.proofs.register_at.Reads as register-at-reads
+use Rattle.grants.proofs.register_at.Reads as register-at-reads
 
 enum-known-instruction : tie.Need-enum-known-instruction
 enum-known-instruction c = search needs

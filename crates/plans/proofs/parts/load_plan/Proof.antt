@@ -12,7 +12,7 @@ use Rattle.plans.proofs.parts.load_plan.Reads as reads
 use Rattle.plans.proofs.parts.load_plan.Lts as lts
 use Rattle.plans.proofs.parts.access_of.Reads as access-of-reads
 use Rattle.records.proofs.value_at.Reads as value-at-reads
-use Rattle.tables.proofs.register_at.Reads as register-at-reads
+use Rattle.grants.proofs.register_at.Reads as register-at-reads
 
 register-at-requires : tie.Need-register-at-requires
 register-at-requires c κs = search needs

@@ -11,7 +11,7 @@ use Rattle.plans.proofs.parts.wait_plan.Tie as tie
 use Rattle.plans.proofs.parts.wait_plan.Reads as reads
 use Rattle.plans.proofs.parts.wait_plan.Lts as lts
 use Rattle.plans.proofs.parts.access_of.Reads as access-of-reads
-use Rattle.tables.proofs.register_at.Reads as register-at-reads
+use Rattle.grants.proofs.register_at.Reads as register-at-reads
 use Rattle.arrays.proofs.mode_at.Reads as mode-at-reads
 
 register-at-requires : tie.Need-register-at-requires

@@ -12,7 +12,7 @@ use Rattle.semantics.specs.declared.Record.{Record}
 use Rattle.semantics.specs.declared.Answer.the-variants.{Accepted}
 use Rattle.semantics.specs.Run.{no-modes}
 use Rattle.semantics.specs.Footprint.{granted}
-use Rattle.tables.specs.Grants.{grant-of, child-grant, grants-from}
+use Rattle.grants.specs.Grants.{grant-of, child-grant, grants-from}
 use Rattle.tables.specs.Children.{Fit, RowsOf}
 use Rattle.changes.specs.declared.Change.{Change}
 use Rattle.records.specs.Records.{newborn}

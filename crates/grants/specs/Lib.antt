@@ -1,0 +1,2 @@
+-- The definitions that the promises of this crate cite.
+pub mod Grants

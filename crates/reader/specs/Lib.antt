@@ -1,0 +1,2 @@
+-- What a reader must believe of the reader's parts.
+pub mod Rows

@@ -1,0 +1,2 @@
+-- What a reader must believe of taken fields.
+pub mod Positions

@@ -10,8 +10,7 @@ use lib.ListN.{length, getD, set, length-set}
 use lib.Seq.{set-set, set-out, set-comm, getD-set-same, getD-set-other}
 use Rattle.semantics.specs.Run.{Task, Run, never, task-of}
 use Rattle.semantics.specs.Effect.{Edit, keep, put, add, Numbered, Effect}
-use Rattle.semantics.specs.Plan.{wrap}
-use Rattle.semantics.specs.Call.{edited, written, stays, places, changes, charged, apply}
+use Rattle.semantics.specs.Call.{sum-of, edited, written, stays, places, changes, charged, apply}
 use Rattle.semantics.specs.Sound.{In, Distinct}
 use Rattle.semantics.proofs.Order.{in-append, splice-comm}
 
@@ -60,7 +59,7 @@ changed-alike a f g m h = sort (decLt a (length m))
     sort (no out) = ap (changed a g) (beyond f out) ∙ beyond g out ∙ sym (ap (changed a f) (beyond g out) ∙ beyond f out)
 
 -- "modulo 2^32": two sums at one location end alike in either order
-sums-comm : (v w x : ℕ) → wrap (wrap (x + v) + w) ≡ wrap (wrap (x + w) + v)
+sums-comm : (v w x : ℕ) → sum-of (sum-of x v) w ≡ sum-of (sum-of x w) v
 sums-comm v w x = omega arith
 
 adds-comm : (a b v w : ℕ) (m : List ℕ) → edited (add b w) (edited (add a v) m) ≡ edited (add a v) (edited (add b w) m)
@@ -68,19 +67,19 @@ unfolding edited
 adds-comm a b v w m = sort (ℕ-discrete a b)
   where
     sort : Dec (a ≡ b) → edited (add b w) (edited (add a v) m) ≡ edited (add a v) (edited (add b w) m)
-    sort (no ne) = changed-apart a b (λ x. wrap (x + v)) (λ x. wrap (x + w)) m ne
+    sort (no ne) = changed-apart a b (λ x. sum-of x v) (λ x. sum-of x w) m ne
     sort (yes q) =
-        subst (λ k. changed k (λ x. wrap (x + w)) (changed a (λ x. wrap (x + v)) m) ≡ changed a (λ x. wrap (x + v)) (changed k (λ x. wrap (x + w)) m)) q
-        (changed-alike a (λ x. wrap (x + v)) (λ x. wrap (x + w)) m (sums-comm v w))
+        subst (λ k. changed k (λ x. sum-of x w) (changed a (λ x. sum-of x v) m) ≡ changed a (λ x. sum-of x v) (changed k (λ x. sum-of x w) m)) q
+        (changed-alike a (λ x. sum-of x v) (λ x. sum-of x w) m (sums-comm v w))
 
 pub edits-comm : (e d : Edit) (m : List ℕ) → EditsApart e d → edited d (edited e m) ≡ edited e (edited d m)
 unfolding edited
 edits-comm keep d m h = refl
 edits-comm (put a v) keep m h = refl
 edits-comm (put a v) (put b w) m h = changed-apart a b (λ _. v) (λ _. w) m h
-edits-comm (put a v) (add b w) m h = changed-apart a b (λ _. v) (λ x. wrap (x + w)) m h
+edits-comm (put a v) (add b w) m h = changed-apart a b (λ _. v) (λ x. sum-of x w) m h
 edits-comm (add a v) keep m h = refl
-edits-comm (add a v) (put b w) m h = changed-apart a b (λ x. wrap (x + v)) (λ _. w) m h
+edits-comm (add a v) (put b w) m h = changed-apart a b (λ x. sum-of x v) (λ _. w) m h
 edits-comm (add a v) (add b w) m h = adds-comm a b v w m
 
 -- records

@@ -47,11 +47,15 @@ decide c r b =
     let outcome = settle r n (plan c (b .action) n (task-of r n)) in
     cond (ltb n 128) (cond (among n (r .order)) outcome (refuse 10)) (refuse 9)
 
--- the memory after an edit; request 107: "entry number Ra := entry + Rb modulo 2^32"
+-- request 107: "entry + Rb modulo 2^32"
+abbrev pub sum-of : ℕ → ℕ → ℕ
+sum-of entry v = wrap (entry + v)
+
+-- the memory after an edit
 unfoldable pub edited : Edit → List ℕ → List ℕ
 edited keep m = m
 edited (put a v) m = set m a v
-edited (add a v) m = set m a (wrap (getD m a 0 + v))
+edited (add a v) m = set m a (sum-of (getD m a 0) v)
 
 -- the table with these records written
 unfoldable pub written : List Numbered → List Task → List Task

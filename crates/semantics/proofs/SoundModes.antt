@@ -59,7 +59,7 @@ none-grants (suc (suc zero)) f = not-zero 0 (unfold access-fault in f)
 none-grants (suc (suc (suc zero))) f = not-zero 0 (unfold access-fault in f)
 none-grants (suc (suc (suc (suc m)))) f = not-zero 0 (unfold access-fault in f)
 
--- what an own mode grants, a task of a place in the queue has
+-- a task whose own mode grants something has a place in the queue
 pub granted-queued : (o m : ℕ) → access-fault o m ≡ 0 → o ≡ 0 → ⊥
 granted-queued o m f z = none-grants m (subst (λ x. access-fault x m ≡ 0) z f)
 

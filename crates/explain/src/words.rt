@@ -90,6 +90,10 @@ pub fn say_instruction(instruction: Instruction) {
             say_byte(b", ", children);
             say(b" children");
         }
+        Instruction::Sum { place, source } => {
+            say_byte(b"sum entry R", place);
+            say_byte(b" + R", source);
+        }
     }
 }
 
@@ -101,6 +105,8 @@ pub fn say_line(line: Line) {
         0 => say_byte(b" read entry ", value),
         1 => say_byte(b" write entry ", value),
         2 => say_byte(b" read entry R", value),
-        _ => say_byte(b" write entry R", value),
+        3 => say_byte(b" write entry R", value),
+        4 => say_byte(b" sum entry ", value),
+        _ => say_byte(b" sum entry R", value),
     }
 }

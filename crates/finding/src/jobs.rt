@@ -117,6 +117,10 @@ fn made_by(
             k,
             child_of(job, place, number, depth, body, footprint, children),
         ),
+        Instruction::Sum {
+            place: _,
+            source: _,
+        } => job,
     }
 }
 

@@ -15,11 +15,11 @@ use Rattle.tasklist.specs.Decode.{line-limit, forms, form, register, kept}
 pub past : (n k : ℕ) → n ≤ k → (k ≡ n → ⊥) → n + 1 ≤ k
 past n k h e = omega arith
 
-pub line-limit-other : (locations kind : ℕ) → 4 ≤ kind → line-limit locations kind ≡ 0
+pub line-limit-other : (locations kind : ℕ) → 6 ≤ kind → line-limit locations kind ≡ 0
 unfolding line-limit
-line-limit-other locations kind h = List·getD-eq-default (locations ∷ locations ∷ 4 ∷ 4 ∷ []) 0 h
+line-limit-other locations kind h = List·getD-eq-default (locations ∷ locations ∷ 4 ∷ 4 ∷ locations ∷ 4 ∷ []) 0 h
 
-pub form-other : (code a b c : ℕ) → 10 ≤ code → form code a b c ≡ none
+pub form-other : (code a b c : ℕ) → 11 ≤ code → form code a b c ≡ none
 unfolding form forms
 form-other code a b c h = List·getD-eq-default (forms a b c) none h
 

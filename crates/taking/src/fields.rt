@@ -75,6 +75,8 @@ pub fn limit_of(locations: u8, kind: u8) -> u8
         1 => locations,
         2 => 4,
         3 => 4,
+        4 => locations,
+        5 => 4,
         _ => 0,
     }
 }

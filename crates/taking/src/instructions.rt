@@ -169,6 +169,14 @@ fn instruction_in(at: Scope, code: u8, a: u8, b: u8, c: u8) -> Form
                 children: c,
             },
         ),
+        10 => if_zero(
+            c,
+            registers(a, b, 0),
+            Instruction::Sum {
+                place: a,
+                source: b,
+            },
+        ),
         _ => Form::Unknown,
     }
 }

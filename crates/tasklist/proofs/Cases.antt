@@ -1,11 +1,11 @@
 -- Document 01's example P: 54 bytes, which decode and encode again. The list of no bytes, whose records are 8 bytes. A
--- list with a fan (request 104).
+-- list with a fan (request 104), one with a sum (request 107).
 use Prim.Native.Nat.{ℕ, _+_, _*_}
 use mathlib.Core.Path.{_≡_, refl}
-use mathlib.Core.List.{List, [], _∷_, _++_}
+use mathlib.Core.List.{List, [], _∷_, _++_, map}
 use lib.ListN.{length}
 use Rattle.tasklist.specs.declared.Instruction.{Instruction}
-use Rattle.tasklist.specs.declared.Instruction.the-variants.{Const, Load, Store, Spawn, Fan}
+use Rattle.tasklist.specs.declared.Instruction.the-variants.{Const, Load, Store, Spawn, Fan, Sum}
 use Rattle.tasklist.specs.TaskList.{TaskList, total, adds, count-body, count-from, counts, task-count}
 use Rattle.tasklist.specs.Fields.{field, is-tag, tag, in-range, number, counted, many, row}
 use Rattle.tasklist.specs.Decode.{head-numbers, head, line-limit, line-ok, is-line, line, footprint, forms, form, register, spawn-ok, instruction-ok, is-instruction, instruction, body, list-behind, sized, finish, empty-list, decode, accepted, refused}
@@ -107,3 +107,45 @@ fan-of-128 = refl
 pub fan-of-137 : decode (fan-bytes 15 1 (9 ∷ 2 ∷ 0 ∷ 8 ∷ [])) ≡ refused 7
 unfolding field is-tag tag in-range number counted many row head-numbers head line-limit line-ok is-line line footprint forms form register spawn-ok instruction-ok is-instruction instruction body list-behind sized finish decode total adds count-body count-from counts task-count
 fan-of-137 = refl
+
+-- a list of four locations: a footprint of one line, and a body of one instruction
+abbrev sum-bytes : ℕ → ℕ → List ℕ → List ℕ
+sum-bytes kind value made =
+    0x4A ∷ 0x48 ∷ 4 ∷ 1 ∷ 1 ∷
+    0x4A ∷ 0x46 ∷ 1 ∷ kind ∷ value ∷
+    0x4A ∷ 0x42 ∷ 1 ∷ made
+
+abbrev sum-list : ℕ → ℕ → TaskList
+sum-list kind value =
+    record {
+      locations = 4;
+      footprints = (record { kind = kind; value = value } ∷ []) ∷ [];
+      bodies = (Sum 3 2 ∷ []) ∷ [];
+    }
+
+-- "line kind 4 sums a fixed entry, 5 one named by a register. New code 10: entry number Ra := entry + Rb": the last entry, the
+-- last register; a sum makes no task
+pub sums-decode : map decode (sum-bytes 4 3 (10 ∷ 3 ∷ 2 ∷ 0 ∷ []) ∷ sum-bytes 5 3 (10 ∷ 3 ∷ 2 ∷ 0 ∷ []) ∷ [])
+    ≡ accepted (sum-list 4 3) ∷ accepted (sum-list 5 3) ∷ []
+unfolding field is-tag tag in-range number counted many row head-numbers head line-limit line-ok is-line line footprint forms form register spawn-ok instruction-ok is-instruction instruction body list-behind sized finish decode total adds count-body count-from counts task-count
+sums-decode = refl
+
+pub sum-counts : task-count (sum-list 4 3) 0 ≡ 1
+unfolding total adds count-body count-from counts task-count
+sum-counts = refl
+
+pub sum-encodes : encode (sum-list 5 3) ≡ sum-bytes 5 3 (10 ∷ 3 ∷ 2 ∷ 0 ∷ [])
+unfolding instruction-fields line-fields joined footprint-bytes body-bytes head-bytes encode
+sum-encodes = refl
+
+-- "Entry below C, register 0 to 3": entry 4 of four, register 4; no kind 6
+pub sum-lines-refused : map decode (sum-bytes 4 4 [] ∷ sum-bytes 5 4 [] ∷ sum-bytes 6 0 [] ∷ []) ≡ refused 4 ∷ refused 4 ∷ refused 4 ∷ []
+unfolding field is-tag tag in-range number counted many row head-numbers head line-limit line-ok is-line line footprint forms form register spawn-ok instruction-ok is-instruction instruction body list-behind sized finish decode total adds count-body count-from counts task-count
+sum-lines-refused = refl
+
+-- "a register above 3, is a bad instruction", "fields not listed are 0"; no code 11
+pub sums-refused : map (λ made. decode (sum-bytes 4 3 made))
+    ((10 ∷ 4 ∷ 0 ∷ 0 ∷ []) ∷ (10 ∷ 0 ∷ 4 ∷ 0 ∷ []) ∷ (10 ∷ 0 ∷ 0 ∷ 1 ∷ []) ∷ (11 ∷ 0 ∷ 0 ∷ 0 ∷ []) ∷ [])
+    ≡ refused 5 ∷ refused 5 ∷ refused 5 ∷ refused 5 ∷ []
+unfolding field is-tag tag in-range number counted many row head-numbers head line-limit line-ok is-line line footprint forms form register spawn-ok instruction-ok is-instruction instruction body list-behind sized finish decode total adds count-body count-from counts task-count
+sums-refused = refl

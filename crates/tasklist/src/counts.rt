@@ -55,6 +55,10 @@ pub fn added(instruction: Instruction, known: &[u8; 32]) -> usize
             footprint: _,
             children,
         } => wide(children) * wide(count_at(known, body as usize)),
+        Instruction::Sum {
+            place: _,
+            source: _,
+        } => 0,
     }
 }
 

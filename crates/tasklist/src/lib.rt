@@ -1,7 +1,7 @@
 // Job lists: document 01's binary format, the tables that a read list is kept in, and the task counts. The reader stands above, in
 // `taking` and `reader`, what is asked of the tables in `listing`, the writer in `writer`; the runtime uses promises only.
 
-// One instruction of a task body (document 01: sheet), one case for each of the ten forms.
+// One instruction of a task body (document 01: sheet), one case for each of the eleven forms.
 pub enum Instruction {
     // 0 const: register `target` := `value`.
     Const {
@@ -56,10 +56,15 @@ pub enum Instruction {
         footprint: u8,
         children: u8,
     },
+    // 10 sum (request 107): the location whose number is in register `place` := itself + register `source`, modulo 2^32.
+    Sum {
+        place: u8,
+        source: u8,
+    },
 }
 
 // One line of a footprint: kind 0 reads and 1 writes location `value`; 2 reads and 3 writes the location whose
-// number is in register `value`.
+// number is in register `value`; request 107: 4 sums location `value`, 5 the one named by register `value`.
 pub struct Line {
     pub kind: u8,
     pub value: u8,

@@ -80,6 +80,7 @@ fn put_instruction(out: &mut [u8], at: usize, instruction: Instruction)
             footprint,
             children,
         } => put_four(out, at, 9, body, footprint, children),
+        Instruction::Sum { place, source } => put_four(out, at, 10, place, source, 0),
     }
 }
 

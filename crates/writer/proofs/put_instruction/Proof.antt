@@ -79,6 +79,12 @@ enum-known-instruction-10 c = search needs
 put-four-requires-10 : tie.Need-put-four-requires-10
 put-four-requires-10 c κs = search needs
 
+enum-known-instruction-11 : tie.Need-enum-known-instruction-11
+enum-known-instruction-11 c = search needs
+
+put-four-requires-11 : tie.Need-put-four-requires-11
+put-four-requires-11 c κs = search needs
+
 same-length : tie.Need-same-length
 same-length c = search needs
 
@@ -189,6 +195,17 @@ returns-10 c =
     c .before .before .put-four10 .ensures ∙ ap (λ (x : Instruction). sets (now (args .out)) (args .at)
     (instruction-fields x)) (sym (instruction10 .given .1))
 
+same-length-11 : tie.Need-same-length-11
+same-length-11 c = search needs
+
+returns-11 : tie.Need-returns-11
+unfolding instruction-fields
+returns-11 c =
+    let args = c .before .before .before .before .before .before .before .before .args in
+    let instruction11 = c .before .before .before .before .before .instruction11 in
+    c .before .before .put-four11 .ensures ∙ ap (λ (x : Instruction). sets (now (args .out)) (args .at)
+    (instruction-fields x)) (sym (instruction11 .given .1))
+
 pub put-instruction-spec : {M : Type 1} → statement M
 put-instruction-spec =
     tie.close
@@ -215,6 +232,8 @@ put-instruction-spec =
     put-four-requires-9
     enum-known-instruction-10
     put-four-requires-10
+    enum-known-instruction-11
+    put-four-requires-11
     same-length
     returns
     same-length-2
@@ -234,4 +253,6 @@ put-instruction-spec =
     same-length-9
     returns-9
     same-length-10
-    returns-10)
+    returns-10
+    same-length-11
+    returns-11)

@@ -50,6 +50,9 @@ fanned-to-requires c κs =
     let n = ap (λ (j : Job). j .number) (c .child-of2 .ensures) in
     (omega (arith, n), omega arith)
 
+enum-told-9 : tie.Need-enum-told-9
+enum-told-9 c = search needs
+
 returns : tie.Need-returns
 unfolding made
 returns c = let a = c .before .before .args in ap (made (a .tables) (a .job) (a .place) (a .number) (a .k) (a .depth)) (sym (c .enum-told .given .1))
@@ -95,6 +98,10 @@ returns-10 c =
     c .fanned-to .ensures ∙ ap (fanned (a .tables) (a .k)) (c .before .child-of2 .ensures) ∙
     ap (made (a .tables) (a .job) (a .place) (a .number) (a .k) (a .depth)) (sym (c .before .before .before .instruction2 .given .1))
 
+returns-11 : tie.Need-returns-11
+unfolding made
+returns-11 c = let a = c .before .before .args in ap (made (a .tables) (a .job) (a .place) (a .number) (a .k) (a .depth)) (sym (c .enum-told9 .given .1))
+
 pub made-by-spec : {M : Type 1} → statement M
 made-by-spec =
     tie.close
@@ -112,6 +119,7 @@ made-by-spec =
     enum-known-instruction-2
     child-of-requires-2
     fanned-to-requires
+    enum-told-9
     returns
     returns-2
     returns-3
@@ -121,4 +129,5 @@ made-by-spec =
     returns-7
     returns-8
     returns-9
-    returns-10)
+    returns-10
+    returns-11)

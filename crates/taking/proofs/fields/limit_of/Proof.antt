@@ -1,4 +1,4 @@
--- The limit by the kind: the four kinds, and no value for another.
+-- The limit by the kind: the six kinds, and no value for another.
 -- Assumes nothing.
 use Rattle.taking.proofs.InstructionLaws.{line-limit-other, past}
 use Prim.Native.Nat.{zero-le}
@@ -26,11 +26,19 @@ unfolding line-limit
 returns-4 c = rw (c .match .keys4) refl
 
 returns-5 : tie.Need-returns-5
-returns-5 c =
+unfolding line-limit
+returns-5 c = rw (c .match .keys5) refl
+
+returns-6 : tie.Need-returns-6
+unfolding line-limit
+returns-6 c = rw (c .match .keys6) refl
+
+returns-7 : tie.Need-returns-7
+returns-7 c =
     let a = c .before .args in
-    sym (line-limit-other (a .locations) (a .kind) (past 3 (a .kind) (past 2 (a .kind) (past 1 (a .kind) (past 0
-    (a .kind) zero-le (c .match .rest .0 .0 .0 .1)) (c .match .rest .0 .0 .1)) (c .match .rest .0 .1))
-    (c .match .rest .1)))
+    sym (line-limit-other (a .locations) (a .kind) (past 5 (a .kind) (past 4 (a .kind) (past 3 (a .kind) (past 2 (a .kind) (past 1
+    (a .kind) (past 0 (a .kind) zero-le (c .match .rest .0 .0 .0 .0 .0 .1)) (c .match .rest .0 .0 .0 .0 .1))
+    (c .match .rest .0 .0 .0 .1)) (c .match .rest .0 .0 .1)) (c .match .rest .0 .1)) (c .match .rest .1)))
 
 pub limit-of-spec : {M : Type 1} → statement M
-limit-of-spec = tie.close (tie.spec returns returns-2 returns-3 returns-4 returns-5)
+limit-of-spec = tie.close (tie.spec returns returns-2 returns-3 returns-4 returns-5 returns-6 returns-7)

@@ -1,7 +1,7 @@
--- By the code: ten codes, each with its test, and none for another.
+-- By the code: eleven codes, each with its test, and none for another.
 -- Assumes nothing.
 use Rattle.tasklist.specs.declared.Instruction.{Instruction}
-use Rattle.tasklist.specs.declared.Instruction.the-variants.{Const, Add, Sub, Less, Load, Store, Skip, Spawn, Wait, Fan}
+use Rattle.tasklist.specs.declared.Instruction.the-variants.{Const, Add, Sub, Less, Load, Store, Skip, Spawn, Wait, Fan, Sum}
 use Rattle.tasklist.specs.Fields.{only-if}
 use Rattle.tasklist.specs.Decode.{form, forms, instruction-ok, kept}
 use Rattle.taking.proofs.InstructionLaws.{form-other, past, kept-only, registers-one, registers-two}
@@ -85,6 +85,12 @@ fans-requires c κs = search needs
 if-passed-requires-5 : tie.Need-if-passed-requires-5
 if-passed-requires-5 c κs = search needs
 
+registers-requires-8 : tie.Need-registers-requires-8
+registers-requires-8 c κs = search needs
+
+if-zero-requires-6 : tie.Need-if-zero-requires-6
+if-zero-requires-6 c κs = search needs
+
 returns : tie.Need-returns
 unfolding form forms instruction-ok
 returns c =
@@ -166,14 +172,17 @@ returns-11 c =
     ∙ (rw (c .before .before .match .keys10) refl)
 
 returns-12 : tie.Need-returns-12
+unfolding form forms instruction-ok
 returns-12 c =
+    let a = c .before .before .before .args in
+    c .if-zero6 .ensures ∙ ap (λ (t : Bool). tested (Sum (a .a) (a .b)) (eqb (a .c) 0 && t)) (c .before .registers8 .ensures ∙
+    registers-two (a .a) (a .b)) ∙ kept-only (instruction-ok (a .at)) (eqb (a .c) 0) (Sum (a .a) (a .b)) ∙ (rw
+    (c .before .before .match .keys11) refl)
+
+returns-13 : tie.Need-returns-13
+returns-13 c =
     let a = c .before .args in
-    sym (ap (kept (instruction-ok (a .at))) (form-other (a .code) (a .a) (a .b) (a .c) (past 9 (a .code) (past 8 (a .code)
-    (past 7 (a .code) (past 6 (a .code) (past 5 (a .code) (past 4 (a .code) (past 3 (a .code) (past 2 (a .code) (past 1
-    (a .code) (past 0 (a .code) zero-le (c .match .rest .0 .0 .0 .0 .0 .0 .0 .0 .0 .1)) (c .match .rest .0 .0 .0 .0 .0 .0 .0 .0 .1))
-    (c .match .rest .0 .0 .0 .0 .0 .0 .0 .1)) (c .match .rest .0 .0 .0 .0 .0 .0 .1)) (c .match .rest .0 .0 .0 .0 .0 .1))
-    (c .match .rest .0 .0 .0 .0 .1)) (c .match .rest .0 .0 .0 .1)) (c .match .rest .0 .0 .1)) (c .match .rest .0 .1))
-    (c .match .rest .1))))
+    sym (ap (kept (instruction-ok (a .at))) (form-other (a .code) (a .a) (a .b) (a .c) (past 10 (a .code) (past 9 (a .code) (past 8 (a .code) (past 7 (a .code) (past 6 (a .code) (past 5 (a .code) (past 4 (a .code) (past 3 (a .code) (past 2 (a .code) (past 1 (a .code) (past 0 (a .code) zero-le (c .match .rest .0 .0 .0 .0 .0 .0 .0 .0 .0 .0 .1)) (c .match .rest .0 .0 .0 .0 .0 .0 .0 .0 .0 .1)) (c .match .rest .0 .0 .0 .0 .0 .0 .0 .0 .1)) (c .match .rest .0 .0 .0 .0 .0 .0 .0 .1)) (c .match .rest .0 .0 .0 .0 .0 .0 .1)) (c .match .rest .0 .0 .0 .0 .0 .1)) (c .match .rest .0 .0 .0 .0 .1)) (c .match .rest .0 .0 .0 .1)) (c .match .rest .0 .0 .1)) (c .match .rest .0 .1)) (c .match .rest .1))))
 
 pub instruction-in-spec : {M : Type 1} → statement M
 instruction-in-spec =
@@ -201,6 +210,8 @@ instruction-in-spec =
     if-zero-requires-5
     fans-requires
     if-passed-requires-5
+    registers-requires-8
+    if-zero-requires-6
     returns
     returns-2
     returns-3
@@ -212,4 +223,5 @@ instruction-in-spec =
     returns-9
     returns-10
     returns-11
-    returns-12)
+    returns-12
+    returns-13)

@@ -61,6 +61,9 @@ count-at-requires-2 c κs = search needs
 wide-requires-3 : tie.Need-wide-requires-3
 wide-requires-3 c κs = search needs
 
+enum-told-9 : tie.Need-enum-told-9
+enum-told-9 c = search needs
+
 mul-result : tie.Need-mul-result
 mul-result c =
     let children = c .before .before .wide2 in
@@ -128,6 +131,11 @@ returns-10 c =
       product-small (children .result) (count .result) (children .ensures .1) (count .ensures .1),
     )
 
+returns-11 : tie.Need-returns-11
+unfolding adds
+returns-11 c =
+    (λ h. ap (adds (λ (a : ℕ). getD (c .before .before .args .known .now) a 1)) (sym (c .enum-told9 .given .1)), omega arith)
+
 pub added-spec : {M : Type 1} → statement M
 added-spec =
     tie.close
@@ -150,6 +158,7 @@ added-spec =
     count-at-requires-2
     wide-requires-3
     mul-result
+    enum-told-9
     returns
     returns-2
     returns-3
@@ -159,4 +168,5 @@ added-spec =
     returns-7
     returns-8
     returns-9
-    returns-10)
+    returns-10
+    returns-11)

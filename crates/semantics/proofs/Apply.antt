@@ -4,12 +4,13 @@ use mathlib.Core.Path.{_≡_, refl, sym, ap, subst, _∙_}
 use mathlib.Core.List.{List, [], _∷_, map}
 use mathlib.Core.Bool.{Bool, true, false}
 use mathlib.Core.Logic.{_⊎_, inl, inr, _≢_}
+use native.Mathlib.Decide.{ℕ-discrete, decLt}
 use native.Mathlib.Omega.{arith}
 use lib.ListN.{length, getD, set, length-set}
-use lib.Seq.{set-comm, getD-set-same, getD-set-other}
+use lib.Seq.{set-set, set-out, set-comm, getD-set-same, getD-set-other}
 use Rattle.semantics.specs.Run.{Task, Run, never, task-of}
-use Rattle.semantics.specs.Effect.{Edit, keep, put, Numbered, Effect}
-use Rattle.semantics.specs.Call.{edited, written, stays, places, changes, charged, apply}
+use Rattle.semantics.specs.Effect.{Edit, keep, put, add, Numbered, Effect}
+use Rattle.semantics.specs.Call.{sum-of, edited, written, stays, places, changes, charged, apply}
 use Rattle.semantics.specs.Sound.{In, Distinct}
 use Rattle.semantics.proofs.Order.{in-append, splice-comm}
 
@@ -24,17 +25,62 @@ abbrev pub Disjoint : List ℕ → List ℕ → Type 0
 Disjoint xs ys = (k : ℕ) → In k xs → In k ys → ⊥
 
 abbrev pub EditsApart : Edit → Edit → Type 0
-EditsApart keep keep = Unit {0}
-EditsApart keep (put b w) = Unit {0}
+EditsApart keep d = Unit {0}
 EditsApart (put a v) keep = Unit {0}
 EditsApart (put a v) (put b w) = a ≢ b
+EditsApart (put a v) (add b w) = a ≢ b
+EditsApart (add a v) keep = Unit {0}
+EditsApart (add a v) (put b w) = a ≢ b
+EditsApart (add a v) (add b w) = Unit {0}
+
+-- a location's value changed: at two locations in either order, at one where the changes can be made in either order
+abbrev changed : ℕ → (ℕ → ℕ) → List ℕ → List ℕ
+changed a f m = set m a (f (getD m a 0))
+
+changed-apart :
+    (a b : ℕ) (f g : ℕ → ℕ) (m : List ℕ) → a ≢ b → changed b g (changed a f m) ≡ changed a f (changed b g m)
+changed-apart a b f g m ne =
+    rw (getD-set-other m a b (f (getD m a 0)) 0 (λ q. ne (sym q)), getD-set-other m b a (g (getD m b 0)) 0 ne)
+    (set-comm m a b (f (getD m a 0)) (g (getD m b 0)) ne)
+
+changed-twice : (a : ℕ) (f g : ℕ → ℕ) (m : List ℕ) → a < length m → changed a g (changed a f m) ≡ set m a (g (f (getD m a 0)))
+changed-twice a f g m h =
+    rw (getD-set-same m a (f (getD m a 0)) 0 h) (set-set m a (f (getD m a 0)) (g (f (getD m a 0))))
+
+changed-alike :
+    (a : ℕ) (f g : ℕ → ℕ) (m : List ℕ) → ((x : ℕ) → g (f x) ≡ f (g x)) → changed a g (changed a f m) ≡ changed a f (changed a g m)
+changed-alike a f g m h = sort (decLt a (length m))
+  where
+    beyond : (k : ℕ → ℕ) → (a < length m → ⊥) → changed a k m ≡ m
+    beyond k out = set-out m a (k (getD m a 0)) (omega arith)
+
+    sort : Dec (a < length m) → changed a g (changed a f m) ≡ changed a f (changed a g m)
+    sort (yes i) = changed-twice a f g m i ∙ ap (set m a) (h (getD m a 0)) ∙ sym (changed-twice a g f m i)
+    sort (no out) = ap (changed a g) (beyond f out) ∙ beyond g out ∙ sym (ap (changed a f) (beyond g out) ∙ beyond f out)
+
+-- "modulo 2^32": two sums at one location end alike in either order
+sums-comm : (v w x : ℕ) → sum-of (sum-of x v) w ≡ sum-of (sum-of x w) v
+sums-comm v w x = omega arith
+
+adds-comm : (a b v w : ℕ) (m : List ℕ) → edited (add b w) (edited (add a v) m) ≡ edited (add a v) (edited (add b w) m)
+unfolding edited
+adds-comm a b v w m = sort (ℕ-discrete a b)
+  where
+    sort : Dec (a ≡ b) → edited (add b w) (edited (add a v) m) ≡ edited (add a v) (edited (add b w) m)
+    sort (no ne) = changed-apart a b (λ x. sum-of x v) (λ x. sum-of x w) m ne
+    sort (yes q) =
+        subst (λ k. changed k (λ x. sum-of x w) (changed a (λ x. sum-of x v) m) ≡ changed a (λ x. sum-of x v) (changed k (λ x. sum-of x w) m)) q
+        (changed-alike a (λ x. sum-of x v) (λ x. sum-of x w) m (sums-comm v w))
 
 pub edits-comm : (e d : Edit) (m : List ℕ) → EditsApart e d → edited d (edited e m) ≡ edited e (edited d m)
 unfolding edited
-edits-comm keep keep m h = refl
-edits-comm keep (put b w) m h = refl
+edits-comm keep d m h = refl
 edits-comm (put a v) keep m h = refl
-edits-comm (put a v) (put b w) m h = set-comm m a b v w h
+edits-comm (put a v) (put b w) m h = changed-apart a b (λ _. v) (λ _. w) m h
+edits-comm (put a v) (add b w) m h = changed-apart a b (λ _. v) (λ x. sum-of x w) m h
+edits-comm (add a v) keep m h = refl
+edits-comm (add a v) (put b w) m h = changed-apart a b (λ x. sum-of x v) (λ _. w) m h
+edits-comm (add a v) (add b w) m h = adds-comm a b v w m
 
 -- records
 pub length-written : (xs : List Numbered) (ts : List Task) → length (written xs ts) ≡ length ts

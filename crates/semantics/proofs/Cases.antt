@@ -7,7 +7,7 @@ use mathlib.Core.Bool.{true}
 use lib.ListN.{length, replicate}
 use Rattle.tasklist.specs.declared.Line.{Line}
 use Rattle.tasklist.specs.declared.Instruction.{Instruction}
-use Rattle.tasklist.specs.declared.Instruction.the-variants.{Const, Sub, Load, Store, Skip, Spawn, Fan}
+use Rattle.tasklist.specs.declared.Instruction.the-variants.{Const, Sub, Load, Store, Skip, Spawn, Wait, Fan, Sum}
 use Rattle.tasklist.specs.TaskList.{TaskList, body-of, footprint-of, instruction-of, total, adds, count-body, count-from, counts, task-count}
 use Rattle.tasklist.specs.Fields.{field, is-tag, tag, in-range, number, counted, many, row}
 use Rattle.tasklist.specs.Decode.{head-numbers, head, line-limit, line-ok, is-line, line, footprint, forms, form, spawn-ok, instruction-ok, is-instruction, instruction, body, list-behind, sized, finish, empty-list, decode}
@@ -15,10 +15,10 @@ use Rattle.tasklist.specs.Decode
 use Rattle.tasklist.specs.Encode.{instruction-fields, line-fields, joined, footprint-bytes, body-bytes, head-bytes, encode}
 use Rattle.tasklist.proofs.Cases.{P-bytes, P}
 use Rattle.semantics.specs.Run.{no-modes, never, fixed-weights, weight-places, is-weight, weight-of, root-modes, root, initial}
-use Rattle.semantics.specs.Access.{every, any, only, ahead, queue, behind-writer, compatible, allowed, access-fault, reads, writes}
+use Rattle.semantics.specs.Access.{every, any, only, ahead, queue, behind-writer, compatible, allowed, access-fault, reads, writes, sums}
 use Rattle.semantics.specs.Effect.{numbered-from}
 use Rattle.semantics.specs.Footprint.{targets, all-targets, merged, unless-denied, grant, child-modes, with-first, children, fan-of}
-use Rattle.semantics.specs.Plan.{unless-fault, plan-load, plan-store, plan-wait, passed-over, child-number, plan-make, plan-instruction, units, step-weight, at-end, needs-from, plan-start, plan-step, plan-end, plan}
+use Rattle.semantics.specs.Plan.{unless-fault, plan-load, plan-store, plan-wait, plan-sum, passed-over, child-number, plan-make, plan-instruction, units, step-weight, at-end, needs-from, plan-start, plan-step, plan-end, plan}
 use Rattle.semantics.specs.Call.{Call, hold, admit, settle, among, decide, edited, written, splice, stays, places, changes, apply, taken, call, after, after-all}
 use Rattle.semantics.specs.Search.{search-from, search, hold-number}
 use Rattle.semantics.specs.Sequential.{start-of, step-of, end-of, run-each, step-through, steps-through, enough, run-whole, sequential}
@@ -99,14 +99,40 @@ named kind value = record { kind = kind; value = value }
 abbrev sharing : List Line → TaskList
 sharing ls = record { locations = 2; footprints = ls ∷ []; bodies = (Spawn 1 0 ∷ []) ∷ [] ∷ [] }
 
--- a task that only reads location 0 spawns or fans out with these lines, which are footprint 1
-abbrev reader-makes : Instruction → List Line → TaskList
-reader-makes i ls =
+-- a task whose one line is of this kind, at location 0, runs these instructions; footprint 1 has these lines
+abbrev under-line : ℕ → List Instruction → List Line → TaskList
+under-line kind is ls =
     record {
       locations = 2;
-      footprints = (named 0 0 ∷ []) ∷ ls ∷ [];
-      bodies = (Spawn 1 0 ∷ []) ∷ (i ∷ []) ∷ [] ∷ [];
+      footprints = (named kind 0 ∷ []) ∷ ls ∷ [];
+      bodies = (Spawn 1 0 ∷ []) ∷ is ∷ [] ∷ [];
     }
+
+-- a task that only reads location 0 spawns or fans out with these lines
+abbrev reader-makes : Instruction → List Line → TaskList
+reader-makes i ls = under-line 0 (i ∷ []) ls
+
+-- request 107: a task that only sums location 0 spawns with these lines
+abbrev summer-makes : List Line → TaskList
+summer-makes ls = under-line 4 (Spawn 2 1 ∷ []) ls
+
+-- job 0's two children sum location 0, adding 3 and 5; then come these instructions
+abbrev totals : List Instruction → TaskList
+totals is =
+    record {
+      locations = 2;
+      footprints = (named 4 0 ∷ []) ∷ (named 1 0 ∷ []) ∷ (named 0 0 ∷ []) ∷ [];
+      bodies = (Const 1 3 ∷ Spawn 1 0 ∷ Const 1 5 ∷ Spawn 1 0 ∷ is) ∷ (Wait 0 ∷ Sum 0 1 ∷ []) ∷ [];
+    }
+
+-- job 0's first child has this footprint there, the second sums
+abbrev sum-behind : ℕ → TaskList
+sum-behind f = record { locations = 2; footprints = totals [] .footprints; bodies = (Spawn 1 f ∷ Spawn 1 0 ∷ []) ∷ [] ∷ [] }
+
+-- the bytes of a list with this line and this instruction of code 10
+abbrev sum-bytes : ℕ → ℕ → ℕ → ℕ → ℕ → List ℕ
+sum-bytes kind value a b c =
+    0x4A ∷ 0x48 ∷ 2 ∷ 1 ∷ 1 ∷ 0x4A ∷ 0x46 ∷ 1 ∷ kind ∷ value ∷ 0x4A ∷ 0x42 ∷ 1 ∷ 10 ∷ a ∷ b ∷ c ∷ []
 
 -- a spawn behind a fan of two tasks, all of a body that fans out one task; no locations are asked for
 abbrev behind-fan : Instruction → TaskList
@@ -138,7 +164,7 @@ tower more =
 
 -- a table of weights
 abbrev primes : List ℕ
-primes = 3 ∷ 5 ∷ 7 ∷ 11 ∷ 13 ∷ 17 ∷ 19 ∷ 23 ∷ 29 ∷ 31 ∷ 37 ∷ 41 ∷ []
+primes = 3 ∷ 5 ∷ 7 ∷ 11 ∷ 13 ∷ 17 ∷ 19 ∷ 23 ∷ 29 ∷ 31 ∷ 37 ∷ 41 ∷ 43 ∷ []
 
 -- start 0, step 0, step 0
 abbrev opening : List Call
@@ -147,6 +173,20 @@ opening = start-of 0 ∷ step-of 0 ∷ step-of 0 ∷ []
 -- then the start and one or two steps of the second child
 abbrev second-steps : List Call
 second-steps = opening ++ (start-of 2 ∷ step-of 2 ∷ step-of 2 ∷ [])
+
+-- a start and two steps
+abbrev runs : ℕ → List Call
+runs n = start-of n ∷ step-of n ∷ step-of n ∷ []
+
+-- job 0's start and its first four steps
+abbrev both-made : List Call
+both-made = opening ++ (step-of 0 ∷ step-of 0 ∷ [])
+
+-- job 0, of mode write, meets one more instruction behind its two summing children: the answer
+abbrev behind-sums : Instruction → ℕ → Case
+behind-sums i answer =
+    by-calls (totals (i ∷ [])) (5 ∷ 7 ∷ []) (both-made ++ (step-of 0 ∷ [])) (replicate 5 0 ++ (answer ∷ []))
+    (memory-is (5 ∷ 7 ∷ []) ∷ order-is (1 ∷ 2 ∷ 0 ∷ []) ∷ [])
 
 -- job 0 spawns a task with these lines, which has this place in the queue of location 0
 abbrev shared : List Line → ℕ → Case
@@ -233,17 +273,17 @@ cases =
     by-hand-under P-bytes (5 ∷ 7 ∷ []) primes (memory-is (9 ∷ 9 ∷ []) ∷ order-is [] ∷ calls-are 13 ∷ weight-is 165 ∷ []) ∷
     by-hand-under (encode (fanned 4 3)) (1 ∷ 2 ∷ 3 ∷ 4 ∷ []) primes
     (memory-is (7 ∷ 7 ∷ 7 ∷ 4 ∷ []) ∷ order-is [] ∷ calls-are 15 ∷ weight-is 245 ∷ []) ∷
-    -- "21 wrong length, 22 a number not in 1 to 1000", in this order and "After 8"
+    -- "21 wrong length, 22 a number not in 1 to 1000", in this order and "After 8"; "Later codes lengthen it by one each."
     opens-with [] (5 ∷ []) fixed-weights 0 ∷
-    opens-with [] (5 ∷ []) (replicate 11 1) 21 ∷
-    opens-with [] (5 ∷ []) (replicate 12 1) 0 ∷
-    opens-with [] (5 ∷ []) (replicate 13 1) 21 ∷
-    opens-with [] (5 ∷ []) (replicate 12 1000) 0 ∷
-    opens-with [] (5 ∷ []) (replicate 11 1 ++ (0 ∷ [])) 22 ∷
-    opens-with [] (5 ∷ []) (1001 ∷ replicate 11 1) 22 ∷
-    opens-with [] (5 ∷ []) (replicate 13 0) 21 ∷
-    opens-with [] [] (replicate 13 0) 8 ∷
-    opens-with (tower (6 ∷ 6 ∷ [])) [] (replicate 13 0) 7 ∷
+    opens-with [] (5 ∷ []) (replicate 12 1) 21 ∷
+    opens-with [] (5 ∷ []) (replicate 13 1) 0 ∷
+    opens-with [] (5 ∷ []) (replicate 14 1) 21 ∷
+    opens-with [] (5 ∷ []) (replicate 13 1000) 0 ∷
+    opens-with [] (5 ∷ []) (replicate 12 1 ++ (0 ∷ [])) 22 ∷
+    opens-with [] (5 ∷ []) (1001 ∷ replicate 12 1) 22 ∷
+    opens-with [] (5 ∷ []) (replicate 14 0) 21 ∷
+    opens-with [] [] (replicate 14 0) 8 ∷
+    opens-with (tower (6 ∷ 6 ∷ [])) [] (replicate 14 0) 7 ∷
     -- request 106: "An entry named twice now counts once: with the common mode, or with write where the modes differ.",
     -- whichever line is first, also by a register (R1 is 0) and in three lines
     shared (named 0 0 ∷ named 0 0 ∷ []) 257 ∷
@@ -257,6 +297,58 @@ cases =
     by-hand (reader-makes (Spawn 2 1) (named 0 0 ∷ named 3 1 ∷ [])) (5 ∷ 7 ∷ []) (fault-is 1 2 ∷ calls-are 6 ∷ []) ∷
     by-hand (reader-makes (Spawn 2 1) (named 1 0 ∷ named 0 1 ∷ [])) (5 ∷ 7 ∷ []) (fault-is 1 2 ∷ calls-are 6 ∷ []) ∷
     by-hand (reader-makes (Spawn 2 1) (named 0 1 ∷ named 1 0 ∷ [])) (5 ∷ 7 ∷ []) (fault-is 1 1 ∷ calls-are 6 ∷ []) ∷
+    -- request 107: "A job of mode 3 may sum, and may start as far as that entry goes, when all ahead have mode 3"; "A wait on a
+    -- sum entry passes when all ahead have mode 3."; "entry + Rb modulo 2^32". The second child before the first
+    by-calls (totals []) (4294967290 ∷ 7 ∷ []) (both-made ++ runs 2) (replicate 8 0)
+    (memory-is (4294967295 ∷ 7 ∷ []) ∷ queue-is 0 (769 ∷ 770 ∷ 512 ∷ []) ∷ search-is 2 (sums 0 ∷ []) 0 2 ∷ []) ∷
+    by-calls (totals []) (4294967290 ∷ 7 ∷ []) (both-made ++ runs 2 ++ runs 1) (replicate 11 0) (memory-is (2 ∷ 7 ∷ []) ∷ []) ∷
+    by-calls (totals []) (4294967290 ∷ 7 ∷ []) (both-made ++ runs 1 ++ runs 2) (replicate 11 0) (memory-is (2 ∷ 7 ∷ []) ∷ []) ∷
+    -- "All orders of adding still end as the hand run does"; "the coordinator's weight for it being 4"
+    by-hand (totals []) (4294967290 ∷ 7 ∷ []) (memory-is (2 ∷ 7 ∷ []) ∷ order-is [] ∷ calls-are 14 ∷ weight-is 49 ∷ []) ∷
+    by-hand-under (encode (totals [])) (4294967290 ∷ 7 ∷ []) primes (memory-is (2 ∷ 7 ∷ []) ∷ calls-are 14 ∷ weight-is 260 ∷ []) ∷
+    -- "a writer sums only when none is ahead"
+    by-hand (small ((Const 1 9 ∷ Sum 0 1 ∷ []) ∷ [])) (5 ∷ 7 ∷ []) (memory-is (14 ∷ 7 ∷ []) ∷ calls-are 4 ∷ weight-is 12 ∷ []) ∷
+    behind-sums (Sum 0 1) 20 ∷
+    behind-sums (Load 2 0) 20 ∷
+    behind-sums (Store 0 1) 20 ∷
+    behind-sums (Wait 0) 20 ∷
+    -- sums ahead hold a writer's and a reader's start: 20, and the search passes them
+    by-calls (totals (Spawn 1 1 ∷ [])) (5 ∷ 7 ∷ []) (both-made ++ (step-of 0 ∷ start-of 3 ∷ [])) (replicate 6 0 ++ (20 ∷ []))
+    (search-is 3 (writes 0 ∷ []) 20 3 ∷ []) ∷
+    by-calls (totals (Spawn 1 2 ∷ [])) (5 ∷ 7 ∷ []) (both-made ++ (step-of 0 ∷ start-of 3 ∷ [])) (replicate 6 0 ++ (20 ∷ []))
+    (search-is 3 (reads 0 ∷ []) 20 3 ∷ []) ∷
+    -- a reader or a writer ahead holds a sum's
+    by-calls (sum-behind 2) (5 ∷ 7 ∷ []) (opening ++ (start-of 2 ∷ [])) (0 ∷ 0 ∷ 0 ∷ 20 ∷ []) (queue-is 0 (257 ∷ 770 ∷ 512 ∷ []) ∷ []) ∷
+    by-calls (sum-behind 1) (5 ∷ 7 ∷ []) (opening ++ (start-of 2 ∷ [])) (0 ∷ 0 ∷ 0 ∷ 19 ∷ []) (queue-is 0 (513 ∷ 770 ∷ 512 ∷ []) ∷ []) ∷
+    -- "On a read entry it faults 2; load and store fault 2 on a sum entry."; 1 where the footprint hasn't the entry
+    by-hand (under-line 0 (Sum 0 1 ∷ []) []) (5 ∷ 7 ∷ []) (fault-is 1 2 ∷ memory-is (5 ∷ 7 ∷ []) ∷ weight-is 26 ∷ []) ∷
+    by-hand (under-line 4 (Load 1 0 ∷ []) []) (5 ∷ 7 ∷ []) (fault-is 1 2 ∷ []) ∷
+    by-hand (under-line 4 (Store 0 1 ∷ []) []) (5 ∷ 7 ∷ []) (fault-is 1 2 ∷ memory-is (5 ∷ 7 ∷ []) ∷ []) ∷
+    by-hand (under-line 4 (Const 0 1 ∷ Sum 0 0 ∷ []) []) (5 ∷ 7 ∷ []) (fault-is 1 1 ∷ memory-is (5 ∷ 7 ∷ []) ∷ []) ∷
+    by-hand (under-line 4 (Const 1 9 ∷ Sum 0 1 ∷ []) []) (5 ∷ 7 ∷ []) (fault-is 1 0 ∷ memory-is (14 ∷ 7 ∷ []) ∷ []) ∷
+    -- "A sum line faults 2 unless the spawner's mode is sum or write; a read or write line faults 2 where it is sum.", each line for
+    -- itself, and 1 before 2; also by a register (R1 is 0)
+    by-hand (reader-makes (Spawn 2 1) (named 4 0 ∷ [])) (5 ∷ 7 ∷ []) (fault-is 1 2 ∷ calls-are 6 ∷ []) ∷
+    by-hand (reader-makes (Spawn 2 1) (named 5 1 ∷ [])) (5 ∷ 7 ∷ []) (fault-is 1 2 ∷ calls-are 6 ∷ []) ∷
+    by-hand (summer-makes (named 4 0 ∷ named 5 1 ∷ [])) (5 ∷ 7 ∷ []) (fault-is 1 0 ∷ calls-are 8 ∷ []) ∷
+    by-hand (summer-makes (named 4 0 ∷ named 0 0 ∷ [])) (5 ∷ 7 ∷ []) (fault-is 1 2 ∷ calls-are 6 ∷ []) ∷
+    by-hand (summer-makes (named 4 0 ∷ named 3 1 ∷ [])) (5 ∷ 7 ∷ []) (fault-is 1 2 ∷ calls-are 6 ∷ []) ∷
+    by-hand (summer-makes (named 4 1 ∷ named 0 0 ∷ [])) (5 ∷ 7 ∷ []) (fault-is 1 1 ∷ calls-are 6 ∷ []) ∷
+    -- read or write and sum differ: write
+    shared (named 4 0 ∷ []) 769 ∷
+    shared (named 5 1 ∷ named 4 0 ∷ []) 769 ∷
+    shared (named 0 0 ∷ named 4 0 ∷ []) 513 ∷
+    shared (named 5 1 ∷ named 2 1 ∷ []) 513 ∷
+    shared (named 4 0 ∷ named 1 0 ∷ named 4 0 ∷ []) 513 ∷
+    -- "line kind 4 sums a fixed entry, 5 one named by a register"; code 10 has two registers
+    tasks-in (sum-bytes 4 1 3 3 0) 1 ∷
+    tasks-in (sum-bytes 5 3 0 0 0) 1 ∷
+    refused-with (sum-bytes 4 2 0 0 0) 4 ∷
+    refused-with (sum-bytes 5 4 0 0 0) 4 ∷
+    refused-with (sum-bytes 6 0 0 0 0) 4 ∷
+    refused-with (sum-bytes 4 0 4 0 0) 5 ∷
+    refused-with (sum-bytes 4 0 0 4 0) 5 ∷
+    refused-with (sum-bytes 4 0 0 0 1) 5 ∷
     -- Besides those marked. "With P and input 00 00 01 00 01 00 00 02 it prints the lines 0, 0, 0, 12, 5, 7, `3 21 3`."
     -- With request 102 the fourth is 19.
     by-calls P (5 ∷ 7 ∷ []) (opening ++ (start-of 2 ∷ [])) (0 ∷ 0 ∷ 0 ∷ 19 ∷ [])
@@ -285,5 +377,5 @@ cases =
     (fault-is 2 2 ∷ order-is (1 ∷ 2 ∷ 0 ∷ []) ∷ []) ∷ []
 
 pub cases-hold : every holds cases ≡ true
-unfolding body-of footprint-of instruction-of total adds count-body count-from counts task-count field is-tag tag in-range number counted many row head-numbers head line-limit line-ok is-line line footprint forms form spawn-ok instruction-ok is-instruction instruction body list-behind sized finish decode Decode.register instruction-fields line-fields joined footprint-bytes body-bytes head-bytes encode no-modes never fixed-weights weight-places is-weight weight-of root-modes root initial every any only ahead queue behind-writer compatible allowed access-fault unless-fault plan-load plan-store plan-wait passed-over targets all-targets merged unless-denied grant child-modes with-first children fan-of numbered-from child-number plan-make plan-instruction units step-weight at-end needs-from plan-start plan-step plan-end plan hold admit search-from search hold-number settle among decide edited written splice stays places changes apply taken call after after-all run-each step-through steps-through enough run-whole sequential with-weights with-list open-asked sequential-asked queue-places outcome-number same is-so answers has-tasks is-refused all-so asked-number holds
+unfolding body-of footprint-of instruction-of total adds count-body count-from counts task-count field is-tag tag in-range number counted many row head-numbers head line-limit line-ok is-line line footprint forms form spawn-ok instruction-ok is-instruction instruction body list-behind sized finish decode Decode.register instruction-fields line-fields joined footprint-bytes body-bytes head-bytes encode no-modes never fixed-weights weight-places is-weight weight-of root-modes root initial every any only ahead queue behind-writer compatible allowed access-fault unless-fault plan-load plan-store plan-wait plan-sum passed-over targets all-targets merged unless-denied grant child-modes with-first children fan-of numbered-from child-number plan-make plan-instruction units step-weight at-end needs-from plan-start plan-step plan-end plan hold admit search-from search hold-number settle among decide edited written splice stays places changes apply taken call after after-all run-each step-through steps-through enough run-whole sequential with-weights with-list open-asked sequential-asked queue-places outcome-number same is-so answers has-tasks is-refused all-so asked-number holds
 cases-hold = refl

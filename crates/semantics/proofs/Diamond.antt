@@ -12,14 +12,15 @@ use lib.ListN.{getD}
 use lib.Seq.{getD-set-other}
 use Rattle.tasklist.specs.Accepted.{Accepted}
 use Rattle.semantics.specs.Run.{Run, Context, mode-of, task-of}
-use Rattle.semantics.specs.Access.{Access, reads, writes, every, ahead, compatible, allowed, access-fault}
-use Rattle.semantics.specs.Effect.{Edit, keep, put, Effect, Plan, stop, go, fetch}
+use Rattle.semantics.specs.Access.{Access, reads, writes, own-access, every, ahead, compatible, allowed, access-fault}
+use Rattle.semantics.specs.Effect.{Edit, keep, put, add, Effect, Plan, stop, go, fetch}
 use Rattle.semantics.specs.Plan.{plan}
 use Rattle.semantics.specs.Call.{Call, edited, splice, places, apply, call}
 use Rattle.semantics.specs.Sound.{In, Future, Valid}
 use Rattle.semantics.proofs.Confluence.{Meet}
 use Rattle.semantics.proofs.Order.{every-in, in-every, in-splice, splice-keep, ahead-splice, in-ahead, one-ahead}
-use Rattle.semantics.proofs.Modes.{store-excludes-reading, store-excludes-writing, load-excludes-writing}
+use Rattle.semantics.proofs.Modes.{not-zero, write-ahead, write-behind, only-writers, sum-excludes-loading}
+use Rattle.semantics.proofs.SoundModes.{granted-queued}
 use Rattle.semantics.proofs.Apply.{touched, numbers, Disjoint, EditsApart, numbers-in, places-touched, apply-comm, task-self}
 use Rattle.semantics.proofs.Fair.{Guarded, FairPlan, fair-plan}
 use Rattle.semantics.proofs.Decide.{Settled, Accepts, Ready, call-accept, accept-call, settled-ready, one-action}
@@ -29,6 +30,7 @@ use Rattle.semantics.proofs.Valid.{accepted-fair, made-absent, made-is-
 abbrev pub Backed : Run → ℕ → Edit → Type 0
 Backed r n keep = Unit {0}
 Backed r n (put a v) = (allowed r n (writes a) ≡ true) × (access-fault (mode-of (task-of r n) a) 2 ≡ 0)
+Backed r n (add a v) = (allowed r n (own-access (task-of r n) a) ≡ true) × (access-fault (mode-of (task-of r n) a) 3 ≡ 0)
 
 -- who stands ahead of an open guard is compatible with it
 ahead-compatible :
@@ -50,14 +52,33 @@ module _ (r : Run) (n m : ℕ) (i : In n (r .order)) (j : In m (r .order)) (ne :
       go-on (inl u) = false≢true (sym x ∙ ahead-compatible r n m d u k)
       go-on (inr u) = false≢true (sym y ∙ ahead-compatible r m n g u h)
 
+  -- where n may store, nothing is let through that m, with a place in the queue, asks for
+  stores-alone :
+      (a v : ℕ) (g : Access) → Backed r n (put a v) → a ≡ g .location → allowed r m g ≡ true
+      → (mode-of (task-of r m) (g .location) ≡ 0 → ⊥) → (g .mode ≡ 0 → ⊥) → ⊥
+  stores-alone a v g h q k queued asked =
+      clash (writes a) g q (h .0) k
+      (subst (λ z. compatible (mode-of (task-of r n) z) (g .mode) ≡ false) q
+      (ap (λ o. compatible o (g .mode)) (only-writers (mode-of (task-of r n) a) (h .1)) ∙ write-ahead (g .mode) asked))
+      (write-behind (mode-of (task-of r m) a) (λ z. queued (ap (mode-of (task-of r m)) (sym q) ∙ z)))
+
+  -- nor a sum
+  stores-beside-no-sum : (a v b w : ℕ) → Backed r n (put a v) → Backed r m (add b w) → a ≡ b → ⊥
+  stores-beside-no-sum a v b w h k q =
+      let there = granted-queued (mode-of (task-of r m) b) 3 (k .1) in
+      stores-alone a v (own-access (task-of r m) b) h q (k .0) there there
+
+-- two edits of different tasks
+module _ (r : Run) (n m : ℕ) (i : In n (r .order)) (j : In m (r .order)) (ne : n ≢ m) where
   edits-apart : (E D : Edit) → Backed r n E → Backed r m D → EditsApart E D
-  edits-apart keep keep h k = tt
-  edits-apart keep (put b w) h k = tt
+  edits-apart keep D h k = tt
   edits-apart (put a v) keep h k = tt
   edits-apart (put a v) (put b w) h k =
-      λ q. clash (writes a) (writes b) q (h .0) (k .0)
-      (subst (λ z. compatible (mode-of (task-of r n) z) 2 ≡ false) q (store-excludes-writing (mode-of (task-of r n) a) (h .1)))
-      (subst (λ z. compatible (mode-of (task-of r m) z) 2 ≡ false) (sym q) (store-excludes-writing (mode-of (task-of r m) b) (k .1)))
+      λ q. stores-alone r n m i j ne a v (writes b) h q (k .0) (granted-queued (mode-of (task-of r m) b) 2 (k .1)) (not-zero 1)
+  edits-apart (put a v) (add b w) h k = stores-beside-no-sum r n m i j ne a v b w h k
+  edits-apart (add a v) keep h k = tt
+  edits-apart (add a v) (put b w) h k = λ q. stores-beside-no-sum r m n j i (λ p. ne (sym p)) b w a v k h (sym q)
+  edits-apart (add a v) (add b w) h k = tt
 
   -- what m may read, n's edit leaves alone
   read-apart :
@@ -65,13 +86,17 @@ module _ (r : Run) (n m : ℕ) (i : In n (r .order)) (j : In m (r .order)) (ne :
       → getD (edited E (r .memory)) b 0 ≡ getD (r .memory) b 0
   unfolding edited
   read-apart keep b h k f = refl
-  read-apart (put a v) b h k f = getD-set-other (r .memory) a b v 0 (λ q. bad (sym q))
+  read-apart (put a v) b h k f =
+      getD-set-other (r .memory) a b v 0
+      (λ q. stores-alone r n m i j ne a v (reads b) h (sym q) k (granted-queued (mode-of (task-of r m) b) 1 f) (not-zero 0))
+  read-apart (add a v) b h k f = getD-set-other (r .memory) a b _ 0 (λ q. bad (sym q))
     where
       bad : a ≡ b → ⊥
       bad q =
-          clash (writes a) (reads b) q (h .0) k
-          (subst (λ z. compatible (mode-of (task-of r n) z) 1 ≡ false) q (store-excludes-reading (mode-of (task-of r n) a) (h .1)))
-          (subst (λ z. compatible (mode-of (task-of r m) z) 2 ≡ false) (sym q) (load-excludes-writing (mode-of (task-of r m) b) f))
+          let f′ = subst (λ z. access-fault (mode-of (task-of r m) z) 1 ≡ 0) (sym q) f in
+          let apart = sum-excludes-loading (mode-of (task-of r n) a) (mode-of (task-of r m) a) (h .1) f′ in
+          clash r n m i j ne (own-access (task-of r n) a) (reads b) q (h .0) k
+          (subst (λ z. compatible (mode-of (task-of r n) z) 1 ≡ false) q (apart .0)) (apart .1)
 
 -- one accepted call
 module _ (c : Context) (ok : Accepted (c .list)) (r : Run) (v : Valid c r) (b : Call) (e : Effect) (h : Accepts c r b e) where
@@ -85,6 +110,7 @@ module _ (c : Context) (ok : Accepted (c .list)) (r : Run) (v : Valid c r) (b : 
           → Backed r (b .task) E
       guarded gs keep s g = tt
       guarded gs (put a w) s g = (every-in (allowed r (b .task)) (writes a) gs s (g .0), g .1)
+      guarded gs (add a w) s g = (every-in (allowed r (b .task)) (own-access (task-of r (b .task)) a) gs s (g .0), g .1)
 
       go-on :
           (p : Plan) → FairPlan c (b .task) (task-of r (b .task)) p → Settled r (b .task) p e

@@ -11,15 +11,15 @@ use lib.Seq.{take-add, drop-cons}
 use lib.Dec.{ltb, eqb}
 use borrow.Author.Tests.{ltb-true, leb-false, eqb-true}
 use Rattle.tasklist.specs.declared.Instruction.{Instruction}
-use Rattle.tasklist.specs.declared.Instruction.the-variants.{Const, Add, Sub, Less, Load, Store, Skip, Spawn, Wait, Fan}
+use Rattle.tasklist.specs.declared.Instruction.the-variants.{Const, Add, Sub, Less, Load, Store, Skip, Spawn, Wait, Fan, Sum}
 use Rattle.tasklist.specs.TaskList.{blank-instruction, body-of, footprint-of, instruction-of, total, adds, task-count}
 use Rattle.tasklist.specs.Decode.{spawn-ok, instruction-ok}
 use Rattle.tasklist.specs.Accepted.{Accepted, scope-of}
 use Rattle.semantics.specs.Run.{Task, Context, mode-of, register}
-use Rattle.semantics.specs.Access.{Access, writes, compatible, access-fault}
-use Rattle.semantics.specs.Effect.{Edit, keep, put, Numbered, Effect, Plan, stop, go, fetch, own, moved, faulted, numbered-from}
+use Rattle.semantics.specs.Access.{Access, writes, own-access, compatible, access-fault}
+use Rattle.semantics.specs.Effect.{Edit, keep, put, add, Numbered, Effect, Plan, stop, go, fetch, own, moved, faulted, numbered-from}
 use Rattle.semantics.specs.Footprint.{Grant, denied, granted, child-modes, Children, none-made, all-made, children, fan-of}
-use Rattle.semantics.specs.Plan.{unless-fault, plan-load, plan-store, plan-wait, child-number, plan-make, plan-instruction, at-end, plan-start, plan-step, plan-end, Action, start, step, end, plan}
+use Rattle.semantics.specs.Plan.{unless-fault, plan-load, plan-store, plan-wait, plan-sum, child-number, plan-make, plan-instruction, at-end, plan-start, plan-step, plan-end, Action, start, step, end, plan}
 use Rattle.semantics.specs.Sound.{In}
 use Rattle.semantics.proofs.Order.{and-left, and-right}
 use Rattle.semantics.proofs.Modes.{Under, GrantUnder, child-under}
@@ -64,6 +64,7 @@ pub record Fair (c : Context) (n : ℕ) (t : Task) (e : Effect) : Type 0 where
 abbrev pub Guarded : Task → List Access → Edit → Type 0
 Guarded t gs keep = Unit {0}
 Guarded t gs (put a v) = In (writes a) gs × (access-fault (mode-of t a) 2 ≡ 0)
+Guarded t gs (add a v) = In (own-access t a) gs × (access-fault (mode-of t a) 3 ≡ 0)
 
 abbrev pub FairPlan : Context → ℕ → Task → Plan → Type 0
 FairPlan c n t (stop k) = Unit {0}
@@ -100,6 +101,13 @@ module _ (c : Context) (n : ℕ) (t : Task) where
   fair-moved : (w k : ℕ) (rs : List ℕ) → t .state ≡ 2 → Fair c n t (own w (moved k rs t))
   fair-moved w k rs s =
       record { body = refl; modes = refl; alive = λ _. s; born = λ x i. absurd i; packed = later-number k rs }
+
+  -- one step on that may edit the memory
+  fair-edit :
+      (w : ℕ) (E : Edit) → t .state ≡ 2
+      → Fair c n t (record { task = moved 1 (t .registers) t; edit = E; made = []; leaves = false; weight = w })
+  fair-edit w E s =
+      record { body = refl; modes = refl; alive = λ _. s; born = λ x i. absurd i; packed = later-number 1 (t .registers) }
 
   fair-faulted : (w k : ℕ) → t .state ≡ 2 → Fair c n t (own w (faulted k t))
   unfolding child-number
@@ -188,7 +196,7 @@ module _ (c : Context) (n : ℕ) (t : Task) where
   fair-instruction :
       (ok : Accepted (c .list)) (w : ℕ) → t .state ≡ 2 → t .pc < length (body-of (c .list) (t .body))
       → (i : Instruction) → instruction-of (c .list) (t .body) (t .pc) ≡ i → FairPlan c n t (plan-instruction c w n t i)
-  unfolding plan-instruction plan-load plan-store plan-wait
+  unfolding plan-instruction plan-load plan-store plan-wait plan-sum
   fair-instruction ok w s h (Const a v) q = (fair-moved w 1 _ s, tt)
   fair-instruction ok w s h (Add a x y) q = (fair-moved w 1 _ s, tt)
   fair-instruction ok w s h (Sub a x y) q = (fair-moved w 1 _ s, tt)
@@ -197,7 +205,7 @@ module _ (c : Context) (n : ℕ) (t : Task) where
       fair-unless (access-fault (mode-of t (register t x)) 1) w _ s (λ f. (f, λ v. (fair-moved w 1 _ s, refl)))
   fair-instruction ok w s h (Store a x) q =
       fair-unless (access-fault (mode-of t (register t a)) 2) w _ s
-      (λ f. (record { body = refl; modes = refl; alive = λ _. s; born = λ y i. absurd i; packed = later-number 1 (t .registers) }, (inl refl, f)))
+      (λ f. (fair-edit w (put (register t a) (register t x)) s, (inl refl, f)))
   fair-instruction ok w s h (Skip a b) q = (fair-moved w _ _ s, tt)
   fair-instruction ok w s h (Spawn b f) q =
       fair-make w b 1 s h (ap (adds (task-count (c .list))) q ∙ unfold adds in omega arith) (children b (footprint-of (c .list) f) (t ∷ []))
@@ -213,6 +221,9 @@ module _ (c : Context) (n : ℕ) (t : Task) where
       (λ x i.
       newborn b f (fan-fits _ b f k (passed ok h _ q) .0) x
       (ap (λ y. y .modes) (fan-in 0 k t x i .1)) (child-modes x (footprint-of (c .list) f)) (child-under x _))))
+  fair-instruction ok w s h (Sum a x) q =
+      fair-unless (access-fault (mode-of t (register t a)) 3) w _ s
+      (λ f. (fair-edit w (add (register t a) (register t x)) s, (inl refl, f)))
 
   pub not-at-end : at-end c t ≡ false → t .pc < length (body-of (c .list) (t .body))
   unfolding at-end

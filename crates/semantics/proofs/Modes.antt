@@ -1,6 +1,6 @@
 -- Laws of the two tables of modes, and of what a footprint grants: a child's modes are under its spawner's. Assumes nothing.
 use Prim.Native.Nat.{ℕ, zero, suc, _<_}
-use mathlib.Core.Path.{_≡_, refl, sym, ap, subst}
+use mathlib.Core.Path.{_≡_, refl, sym, ap, subst, _∙_}
 use mathlib.Core.List.{List, [], _∷_}
 use mathlib.Core.Bool.{true, false, cond, false≢true}
 use mathlib.Core.Logic.{_⊎_, inl, inr}
@@ -24,39 +24,63 @@ unfolding compatible
 compatible-none m zero h = refl
 compatible-none m (suc zero) h = refl
 compatible-none m (suc (suc zero)) h = refl
-compatible-none zero (suc (suc (suc w))) h = h
-compatible-none (suc zero) (suc (suc (suc w))) h = h
-compatible-none (suc (suc zero)) (suc (suc (suc w))) h = h
-compatible-none (suc (suc (suc m))) (suc (suc (suc w))) h = h
+compatible-none m (suc (suc (suc zero))) h = refl
+compatible-none zero (suc (suc (suc (suc w)))) h = h
+compatible-none (suc zero) (suc (suc (suc (suc w)))) h = h
+compatible-none (suc (suc zero)) (suc (suc (suc (suc w)))) h = h
+compatible-none (suc (suc (suc zero))) (suc (suc (suc (suc w)))) h = h
+compatible-none (suc (suc (suc (suc m)))) (suc (suc (suc (suc w)))) h = h
 
-read-below-write : (w : ℕ) → compatible 2 w ≡ true → compatible 1 w ≡ true
+-- a task of mode write lets nothing pass
+pub write-ahead : (w : ℕ) → (w ≡ 0 → ⊥) → compatible 2 w ≡ false
 unfolding compatible
-read-below-write zero h = refl
-read-below-write (suc zero) h = refl
-read-below-write (suc (suc zero)) h = h
-read-below-write (suc (suc (suc w))) h = h
+write-ahead zero h = absurd (h refl)
+write-ahead (suc zero) h = refl
+write-ahead (suc (suc zero)) h = refl
+write-ahead (suc (suc (suc zero))) h = refl
+write-ahead (suc (suc (suc (suc w)))) h = refl
 
--- a mode beside which reading stands, none aside, is read
+-- a mode that stands beside asking for nothing stands beside all that write does
+below-write : (m w : ℕ) → compatible m 0 ≡ true → compatible 2 w ≡ true → compatible m w ≡ true
+below-write m zero z h = z
+below-write m (suc w) z h = absurd (false≢true (sym (write-ahead (suc w) (not-zero w)) ∙ h))
+
+-- a mode beside which reading stands, none aside, is read; one beside which summing stands is sum
 under-read : (e : ℕ) → compatible (suc e) 1 ≡ true → e ≡ 0
 under-read zero h = refl
 under-read (suc zero) h = absurd (false≢true (unfold compatible in h))
-under-read (suc (suc e)) h = absurd (false≢true (unfold compatible in h))
+under-read (suc (suc zero)) h = absurd (false≢true (unfold compatible in h))
+under-read (suc (suc (suc e))) h = absurd (false≢true (unfold compatible in h))
+
+under-sum : (e : ℕ) → compatible (suc e) 3 ≡ true → e ≡ 2
+under-sum zero h = absurd (false≢true (unfold compatible in h))
+under-sum (suc zero) h = absurd (false≢true (unfold compatible in h))
+under-sum (suc (suc zero)) h = refl
+under-sum (suc (suc (suc e))) h = absurd (false≢true (unfold compatible in h))
 
 -- a mode that the own mode grants is under it
 pub granted-under : (o m w : ℕ) → access-fault o m ≡ 0 → compatible o w ≡ true → compatible m w ≡ true
 granted-under zero zero w f h = h
 granted-under zero (suc zero) w f h = absurd (not-zero 0 (unfold access-fault in f))
 granted-under zero (suc (suc zero)) w f h = absurd (not-zero 0 (unfold access-fault in f))
-granted-under zero (suc (suc (suc m))) w f h = absurd (not-zero 0 (unfold access-fault in f))
+granted-under zero (suc (suc (suc zero))) w f h = absurd (not-zero 0 (unfold access-fault in f))
+granted-under zero (suc (suc (suc (suc m)))) w f h = absurd (not-zero 0 (unfold access-fault in f))
 granted-under (suc zero) zero w f h = compatible-none 1 w h
 granted-under (suc zero) (suc zero) w f h = h
 granted-under (suc zero) (suc (suc zero)) w f h = absurd (not-zero 1 (unfold access-fault in f))
-granted-under (suc zero) (suc (suc (suc m))) w f h = absurd (not-zero 0 (unfold access-fault in f))
-granted-under (suc (suc zero)) zero w f h = compatible-none 2 w h
-granted-under (suc (suc zero)) (suc zero) w f h = read-below-write w h
+granted-under (suc zero) (suc (suc (suc zero))) w f h = absurd (not-zero 1 (unfold access-fault in f))
+granted-under (suc zero) (suc (suc (suc (suc m)))) w f h = absurd (not-zero 0 (unfold access-fault in f))
+granted-under (suc (suc zero)) zero w f h = below-write 0 w (unfold compatible in refl) h
+granted-under (suc (suc zero)) (suc zero) w f h = below-write 1 w (unfold compatible in refl) h
 granted-under (suc (suc zero)) (suc (suc zero)) w f h = h
-granted-under (suc (suc zero)) (suc (suc (suc m))) w f h = absurd (not-zero 0 (unfold access-fault in f))
-granted-under (suc (suc (suc o))) m w f h = absurd (not-zero 0 (unfold access-fault in f))
+granted-under (suc (suc zero)) (suc (suc (suc zero))) w f h = below-write 3 w (unfold compatible in refl) h
+granted-under (suc (suc zero)) (suc (suc (suc (suc m)))) w f h = absurd (not-zero 0 (unfold access-fault in f))
+granted-under (suc (suc (suc zero))) zero w f h = compatible-none 3 w h
+granted-under (suc (suc (suc zero))) (suc zero) w f h = absurd (not-zero 1 (unfold access-fault in f))
+granted-under (suc (suc (suc zero))) (suc (suc zero)) w f h = absurd (not-zero 1 (unfold access-fault in f))
+granted-under (suc (suc (suc zero))) (suc (suc (suc zero))) w f h = h
+granted-under (suc (suc (suc zero))) (suc (suc (suc (suc m)))) w f h = absurd (not-zero 0 (unfold access-fault in f))
+granted-under (suc (suc (suc (suc o)))) m w f h = absurd (not-zero 0 (unfold access-fault in f))
 
 -- Two modes under the own one, both there and different, are asked for of a writer only.
 differing-under :
@@ -64,12 +88,18 @@ differing-under :
     → (e ≡ m → ⊥) → compatible o w ≡ true → compatible 2 w ≡ true
 differing-under zero e zero w f u ne h = absurd (not-zero 0 (unfold access-fault in f))
 differing-under zero e (suc zero) w f u ne h = absurd (not-zero 0 (unfold access-fault in f))
-differing-under zero e (suc (suc m)) w f u ne h = absurd (not-zero 0 (unfold access-fault in f))
+differing-under zero e (suc (suc zero)) w f u ne h = absurd (not-zero 0 (unfold access-fault in f))
+differing-under zero e (suc (suc (suc m))) w f u ne h = absurd (not-zero 0 (unfold access-fault in f))
 differing-under (suc zero) e zero w f u ne h = absurd (ne (under-read e (u 1 (unfold compatible in refl))))
 differing-under (suc zero) e (suc zero) w f u ne h = absurd (not-zero 1 (unfold access-fault in f))
-differing-under (suc zero) e (suc (suc m)) w f u ne h = absurd (not-zero 0 (unfold access-fault in f))
+differing-under (suc zero) e (suc (suc zero)) w f u ne h = absurd (not-zero 1 (unfold access-fault in f))
+differing-under (suc zero) e (suc (suc (suc m))) w f u ne h = absurd (not-zero 0 (unfold access-fault in f))
 differing-under (suc (suc zero)) e m w f u ne h = h
-differing-under (suc (suc (suc o))) e m w f u ne h = absurd (not-zero 0 (unfold access-fault in f))
+differing-under (suc (suc (suc zero))) e zero w f u ne h = absurd (not-zero 1 (unfold access-fault in f))
+differing-under (suc (suc (suc zero))) e (suc zero) w f u ne h = absurd (not-zero 1 (unfold access-fault in f))
+differing-under (suc (suc (suc zero))) e (suc (suc zero)) w f u ne h = absurd (ne (under-sum e (u 3 (unfold compatible in refl))))
+differing-under (suc (suc (suc zero))) e (suc (suc (suc m))) w f u ne h = absurd (not-zero 0 (unfold access-fault in f))
+differing-under (suc (suc (suc (suc o)))) e m w f u ne h = absurd (not-zero 0 (unfold access-fault in f))
 
 -- a merged mode is under the own one where the mode so far and the line's are
 pub merged-under :
@@ -84,24 +114,48 @@ merged-under o (suc e) (suc m) w f u h = go (ℕ-discrete e m)
     go (yes q) = rw (eq-eqb e m q) (granted-under o (suc m) w f h)
     go (no q) = rw (ne-eqb e m q) (differing-under o e m w f u q h)
 
--- a task that may store stands beside no reading and no writing; one that may load, beside no writing
-pub store-excludes-reading : (o : ℕ) → access-fault o 2 ≡ 0 → compatible o 1 ≡ false
-store-excludes-reading zero f = absurd (not-zero 0 (unfold access-fault in f))
-store-excludes-reading (suc zero) f = absurd (not-zero 1 (unfold access-fault in f))
-store-excludes-reading (suc (suc zero)) f = unfold compatible in refl
-store-excludes-reading (suc (suc (suc o))) f = absurd (not-zero 0 (unfold access-fault in f))
+-- who may load, store and sum
+pub only-readers : (o : ℕ) → access-fault o 1 ≡ 0 → (o ≡ 1) ⊎ (o ≡ 2)
+only-readers zero f = absurd (not-zero 0 (unfold access-fault in f))
+only-readers (suc zero) f = inl refl
+only-readers (suc (suc zero)) f = inr refl
+only-readers (suc (suc (suc zero))) f = absurd (not-zero 1 (unfold access-fault in f))
+only-readers (suc (suc (suc (suc o)))) f = absurd (not-zero 0 (unfold access-fault in f))
 
-pub store-excludes-writing : (o : ℕ) → access-fault o 2 ≡ 0 → compatible o 2 ≡ false
-store-excludes-writing zero f = absurd (not-zero 0 (unfold access-fault in f))
-store-excludes-writing (suc zero) f = absurd (not-zero 1 (unfold access-fault in f))
-store-excludes-writing (suc (suc zero)) f = unfold compatible in refl
-store-excludes-writing (suc (suc (suc o))) f = absurd (not-zero 0 (unfold access-fault in f))
+pub only-writers : (o : ℕ) → access-fault o 2 ≡ 0 → o ≡ 2
+only-writers zero f = absurd (not-zero 0 (unfold access-fault in f))
+only-writers (suc zero) f = absurd (not-zero 1 (unfold access-fault in f))
+only-writers (suc (suc zero)) f = refl
+only-writers (suc (suc (suc zero))) f = absurd (not-zero 1 (unfold access-fault in f))
+only-writers (suc (suc (suc (suc o)))) f = absurd (not-zero 0 (unfold access-fault in f))
 
-pub load-excludes-writing : (o : ℕ) → access-fault o 1 ≡ 0 → compatible o 2 ≡ false
-load-excludes-writing zero f = absurd (not-zero 0 (unfold access-fault in f))
-load-excludes-writing (suc zero) f = unfold compatible in refl
-load-excludes-writing (suc (suc zero)) f = unfold compatible in refl
-load-excludes-writing (suc (suc (suc o))) f = absurd (not-zero 0 (unfold access-fault in f))
+pub only-summers : (o : ℕ) → access-fault o 3 ≡ 0 → (o ≡ 2) ⊎ (o ≡ 3)
+only-summers zero f = absurd (not-zero 0 (unfold access-fault in f))
+only-summers (suc zero) f = absurd (not-zero 1 (unfold access-fault in f))
+only-summers (suc (suc zero)) f = inl refl
+only-summers (suc (suc (suc zero))) f = inr refl
+only-summers (suc (suc (suc (suc o)))) f = absurd (not-zero 0 (unfold access-fault in f))
+
+-- a task of any mode ahead holds a writer back
+pub write-behind : (m : ℕ) → (m ≡ 0 → ⊥) → compatible m 2 ≡ false
+unfolding compatible
+write-behind zero h = absurd (h refl)
+write-behind (suc zero) h = refl
+write-behind (suc (suc zero)) h = refl
+write-behind (suc (suc (suc zero))) h = refl
+write-behind (suc (suc (suc (suc m)))) h = refl
+
+-- a task that may sum, by its own mode o, and one that may load hold each other back
+pub sum-excludes-loading :
+    (o p : ℕ) → access-fault o 3 ≡ 0 → access-fault p 1 ≡ 0 → (compatible o 1 ≡ false) × (compatible p o ≡ false)
+unfolding compatible
+sum-excludes-loading o p f g = sort (only-summers o f) (only-readers p g)
+  where
+    sort : (o ≡ 2) ⊎ (o ≡ 3) → (p ≡ 1) ⊎ (p ≡ 2) → (compatible o 1 ≡ false) × (compatible p o ≡ false)
+    sort (inl x) (inl y) = rw (x, y) (refl, refl)
+    sort (inl x) (inr y) = rw (x, y) (refl, refl)
+    sort (inr x) (inl y) = rw (x, y) (refl, refl)
+    sort (inr x) (inr y) = rw (x, y) (refl, refl)
 
 -- these modes are under the task's: what stands beside the task's stands beside them
 abbrev pub Under : Task → List ℕ → Type 0

@@ -1,4 +1,4 @@
--- Document 01's rules of start, load, store and wait in its own words, for the whole call: who is let through, who is held
+-- Document 01's rules of start, load, store and wait, and request 107's of sum, in their own words, for the whole call: who is let through, who is held
 -- back and with which number, and that faults come before waiting. Assumes nothing.
 use Prim.Native.Nat.{ℕ, suc, _<_, _≤_}
 use mathlib.Core.Path.{_≡_, refl, sym, subst, _∙_}
@@ -6,19 +6,19 @@ use mathlib.Core.List.{[], _∷_}
 use mathlib.Core.Bool.{Bool, true, false, cond, _&&_, _||_}
 use lib.ListN.{getD}
 use Rattle.semantics.specs.Run.{Run, Context, mode-of, task-of, start-weight}
-use Rattle.semantics.specs.Access.{Access, reads, writes, every, any, may-read, may-write, behind-writer, allowed, access-fault}
-use Rattle.semantics.specs.Effect.{Effect, own, in-state, moved, faulted, assigned, storing}
-use Rattle.semantics.specs.Plan.{unless-fault, plan-load, plan-store, plan-wait, start}
+use Rattle.semantics.specs.Access.{Access, reads, writes, sums, every, any, may-read, may-write, may-sum, behind-writer, allowed, access-fault}
+use Rattle.semantics.specs.Effect.{Effect, own, in-state, moved, faulted, assigned, storing, adding}
+use Rattle.semantics.specs.Plan.{unless-fault, plan-load, plan-store, plan-wait, plan-sum, start}
 use Rattle.semantics.specs.Call.{refuse, accept, hold, admit, settle}
 use Rattle.semantics.specs.Sequential.{start-of}
 use Rattle.semantics.specs.Sound.{In}
 use Rattle.semantics.proofs.Modes.{not-zero}
 use Rattle.semantics.proofs.Decide.{Settled, Accepts, settled-ready}
 use Rattle.semantics.proofs.Front.{start-plan}
-use Rattle.semantics.proofs.SoundModes.{none-grants}
-use Rattle.semantics.proofs.Wording.{read-wording, write-wording, MayStart, start-wording, wording-starts}
+use Rattle.semantics.proofs.SoundModes.{granted-queued}
+use Rattle.semantics.proofs.Wording.{read-wording, write-wording, sum-wording, MayStart, start-wording, wording-starts}
 
--- "Start: the job may read each entry of mode 1 and write each of mode 2; its state becomes 2."
+-- "Start: the job may read each entry of mode 1 and write each of mode 2; its state becomes 2."; request 107: and sum each of mode 3
 module _ (c : Context) (r : Run) (n : ℕ) where
   pub start-needs :
       (e : Effect) → Accepts c r (start-of n) e
@@ -29,7 +29,7 @@ module _ (c : Context) (r : Run) (n : ℕ) where
       (waits, start-wording r n (s .0), s .1)
 
   pub start-enough :
-      n < 128 → In n (r .order) → task-of r n .state ≡ 1 → ((a : ℕ) → mode-of (task-of r n) a ≤ 2) → MayStart r n
+      n < 128 → In n (r .order) → task-of r n .state ≡ 1 → ((a : ℕ) → mode-of (task-of r n) a ≤ 3) → MayStart r n
       → Accepts c r (start-of n) (own (start-weight c) (in-state 2 (task-of r n)))
   start-enough l i waits most h =
       record {
@@ -63,17 +63,13 @@ unfolding admit every
 no-access r n e = refl
 
 module _ (r : Run) (n w place : ℕ) where
-  -- a location that the task's own mode lets it use has the task in its queue
-  queued : (asked : ℕ) → access-fault (mode-of (task-of r n) place) asked ≡ 0 → mode-of (task-of r n) place ≡ 0 → ⊥
-  queued asked f z = none-grants asked (subst (λ o. access-fault o asked ≡ 0) z f)
-
   -- "Load needs reading"
   pub load-rule :
       (a : ℕ) → access-fault (mode-of (task-of r n) place) 1 ≡ 0
       → settle r n (plan-load w (task-of r n) a place)
       ≡ cond (may-read r n place) (accept (own w (assigned a (getD (r .memory) place 0) (task-of r n)))) (refuse (holder r n place))
   unfolding plan-load unless-fault settle
-  load-rule a f = rw f (admit-by r n (reads place) _ _ (read-wording r n place (queued 1 f)))
+  load-rule a f = rw f (admit-by r n (reads place) _ _ (read-wording r n place (granted-queued (mode-of (task-of r n) place) 1 f)))
 
   -- "store needs writing"
   pub store-rule :
@@ -81,7 +77,7 @@ module _ (r : Run) (n w place : ℕ) where
       → settle r n (plan-store w (task-of r n) place v)
       ≡ cond (may-write r n place) (accept (storing w place v (task-of r n))) (refuse (holder r n place))
   unfolding plan-store unless-fault settle
-  store-rule v f = rw f (admit-by r n (writes place) _ _ (write-wording r n place (queued 2 f)))
+  store-rule v f = rw f (admit-by r n (writes place) _ _ (write-wording r n place (granted-queued (mode-of (task-of r n) place) 2 f)))
 
   -- "wait needs what the job's own mode there allows"
   pub wait-reading :
@@ -98,6 +94,30 @@ module _ (r : Run) (n w place : ℕ) where
   unfolding plan-wait unless-fault settle access-fault
   wait-writing q = rw q (admit-by r n (writes place) _ _ (write-wording r n place (λ z. not-zero 1 (sym q ∙ z))))
 
+  -- request 107: "A wait on a sum entry passes when all ahead have mode 3."
+  pub wait-summing :
+      mode-of (task-of r n) place ≡ 3
+      → settle r n (plan-wait w (task-of r n) place)
+      ≡ cond (may-sum r n place) (accept (own w (moved 1 (task-of r n .registers) (task-of r n)))) (refuse (holder r n place))
+  unfolding plan-wait unless-fault settle access-fault
+  wait-summing q = rw q (admit-by r n (sums place) _ _ (sum-wording r n place (λ z. not-zero 2 (sym q ∙ z))))
+
+  -- "A job of mode 3 may sum .. when all ahead have mode 3"
+  pub sum-summing :
+      (v : ℕ) → mode-of (task-of r n) place ≡ 3
+      → settle r n (plan-sum w (task-of r n) place v)
+      ≡ cond (may-sum r n place) (accept (adding w place v (task-of r n))) (refuse (holder r n place))
+  unfolding plan-sum unless-fault settle access-fault
+  sum-summing v q = rw q (admit-by r n (sums place) _ _ (sum-wording r n place (λ z. not-zero 2 (sym q ∙ z))))
+
+  -- "a writer sums only when none is ahead"
+  pub sum-writing :
+      (v : ℕ) → mode-of (task-of r n) place ≡ 2
+      → settle r n (plan-sum w (task-of r n) place v)
+      ≡ cond (may-write r n place) (accept (adding w place v (task-of r n))) (refuse (holder r n place))
+  unfolding plan-sum unless-fault settle access-fault
+  sum-writing v q = rw q (admit-by r n (writes place) _ _ (write-wording r n place (λ z. not-zero 1 (sym q ∙ z))))
+
   -- "Faults come before waiting": whoever stands ahead
   pub load-fault :
       (a k : ℕ) → access-fault (mode-of (task-of r n) place) 1 ≡ suc k
@@ -110,6 +130,12 @@ module _ (r : Run) (n w place : ℕ) where
       → settle r n (plan-store w (task-of r n) place v) ≡ accept (own w (faulted (suc k) (task-of r n)))
   unfolding plan-store unless-fault settle
   store-fault v k f = rw f (no-access r n _)
+
+  pub sum-fault :
+      (v k : ℕ) → access-fault (mode-of (task-of r n) place) 3 ≡ suc k
+      → settle r n (plan-sum w (task-of r n) place v) ≡ accept (own w (faulted (suc k) (task-of r n)))
+  unfolding plan-sum unless-fault settle
+  sum-fault v k f = rw f (no-access r n _)
 
   pub wait-fault :
       mode-of (task-of r n) place ≡ 0

@@ -16,6 +16,7 @@ use Rattle.semantics.specs.Plan.{needs-from}
 use Rattle.semantics.specs.Call.{Outcome, refuse, accept, hold, admit}
 use Rattle.semantics.specs.Search.{writes-one, passes-all, Found, found, behind, search-from, search, hold-number}
 use Rattle.semantics.specs.Sound.{In}
+use Rattle.semantics.proofs.Modes.{write-ahead}
 use Rattle.semantics.proofs.Wording.{writer-wording, needs-sound}
 use Rattle.semantics.proofs.Decide.{not-refuse}
 
@@ -109,13 +110,6 @@ start-asks r n g i =
     let own : mode-of (task-of r n) (g .location) ≡ g .mode =
     ap (mode-of (task-of r n)) (k .1 ∙ zero-add (k .0)) ∙ sym (k .2) in
     record { queued = λ z. k .3 (sym own ∙ z); asked = k .3 }
-
-write-ahead : (a : ℕ) → (a ≡ 0 → ⊥) → compatible 2 a ≡ false
-unfolding compatible
-write-ahead zero h = absurd (h refl)
-write-ahead (suc zero) h = refl
-write-ahead (suc (suc zero)) h = refl
-write-ahead (suc (suc (suc a))) h = refl
 
 write-incompatible : (m a : ℕ) → (a ≡ 0 → ⊥) → eqb m 2 ≡ true → compatible m a ≡ false
 write-incompatible m a z e = ap (λ x. compatible x a) (eqb-true m 2 e) ∙ write-ahead a z

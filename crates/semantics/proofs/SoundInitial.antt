@@ -25,7 +25,7 @@ zeros-small = record { size = refl; small = each }
     each (suc (suc (suc zero))) = omega arith
     each (suc (suc (suc (suc a)))) = omega arith
 
-writes-at : (n m a : ℕ) → getD (replicate n 2 ++ replicate m 0) a 0 ≤ 2
+writes-at : (n m a : ℕ) → getD (replicate n 2 ++ replicate m 0) a 0 ≤ 3
 writes-at zero zero a = omega arith
 writes-at zero (suc m) zero = omega arith
 writes-at zero (suc m) (suc a) = writes-at zero m a

@@ -11,7 +11,7 @@ use lib.ListN.{length, getD, set, length-set}
 use Rattle.tasklist.specs.TaskList.{total}
 use Rattle.tasklist.specs.Accepted.{Accepted}
 use Rattle.semantics.specs.Run.{Task, Run, Context, never, task-of, weight-of}
-use Rattle.semantics.specs.Effect.{Edit, keep, put, Numbered, Effect, Plan, stop, go, fetch}
+use Rattle.semantics.specs.Effect.{Edit, keep, put, add, Numbered, Effect, Plan, stop, go, fetch}
 use Rattle.semantics.specs.Plan.{plan}
 use Rattle.semantics.specs.Call.{Call, among, edited, written, stays, places, charged, changes, apply, call, or-same, after, after-all}
 use Rattle.semantics.specs.Sound.{In, TaskSound, rank, Sound}
@@ -21,7 +21,7 @@ use Rattle.semantics.proofs.Apply.{numbers, touched, in-numbers, number
 use Rattle.semantics.proofs.Decide.{Settled, Accepts, call-accept}
 use Rattle.semantics.proofs.Valid.{made-absent, made-is-future, made-below, made-record, touched-distinct}
 use Rattle.semantics.proofs.Kept.{self-record, valid-kept}
-use Rattle.semantics.proofs.SoundPlan.{SmallEdit, EffectSound, PlanSound, plan-sound}
+use Rattle.semantics.proofs.SoundPlan.{SmallEdit, wrapped, EffectSound, PlanSound, plan-sound}
 use Rattle.semantics.proofs.Ranks.{total-set, total-made}
 
 -- Whose record a number names after a call of n.
@@ -61,16 +61,22 @@ edited-length : (E : Edit) (m : List ℕ) → length (edited E m) ≡ length m
 unfolding edited
 edited-length keep m = refl
 edited-length (put a v) m = length-set m a v
+edited-length (add a v) m = length-set m a _
+
+set-small :
+    (m : List ℕ) (b v : ℕ) → v < 2 ^ 32 → ((a : ℕ) → getD m a 0 < 2 ^ 32) → (a : ℕ) → getD (set m b v) a 0 < 2 ^ 32
+set-small m b v s h a = sort (getD-set-cases m b v a 0)
+  where
+    sort : (getD (set m b v) a 0 ≡ getD m a 0) ⊎ ((a ≡ b) × (getD (set m b v) a 0 ≡ v)) → getD (set m b v) a 0 < 2 ^ 32
+    sort (inl q) = subst (λ x. x < 2 ^ 32) (sym q) (h a)
+    sort (inr q) = subst (λ x. x < 2 ^ 32) (sym (q .1)) s
 
 edited-small :
     (E : Edit) (m : List ℕ) → SmallEdit E → ((a : ℕ) → getD m a 0 < 2 ^ 32) → (a : ℕ) → getD (edited E m) a 0 < 2 ^ 32
 unfolding edited
 edited-small keep m s h a = h a
-edited-small (put b v) m s h a = sort (getD-set-cases m b v a 0)
-  where
-    sort : (getD (set m b v) a 0 ≡ getD m a 0) ⊎ ((a ≡ b) × (getD (set m b v) a 0 ≡ v)) → getD (set m b v) a 0 < 2 ^ 32
-    sort (inl q) = subst (λ x. x < 2 ^ 32) (sym q) (h a)
-    sort (inr q) = subst (λ x. x < 2 ^ 32) (sym (q .1)) s
+edited-small (put b v) m s h a = set-small m b v s h a
+edited-small (add b v) m s h a = set-small m b _ (wrapped (getD m b 0 + v)) h a
 
 module _ (c : Context) (ok : Accepted (c .list)) (most : ℕ) (light : (place : ℕ) → 16 * weight-of c place ≤ most) where
   module _ (r : Run) (s : Sound c most r) (b : Call) (e : Effect) (h : Accepts c r b e) where

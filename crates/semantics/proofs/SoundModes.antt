@@ -1,4 +1,4 @@
--- What the tables of modes and a footprint keep sound: faults of at most 2, modes of at most 2 and none from C on. Assumes
+-- What the tables of modes and a footprint keep sound: faults of at most 2, modes of at most 3 and none from C on. Assumes
 -- nothing.
 use Prim.Native.Nat.{ℕ, zero, suc, _^_, _<_, _≤_}
 use mathlib.Core.Path.{_≡_, refl, sym, ap, subst, _∙_}
@@ -21,41 +21,56 @@ unfolding access-fault
 fault-most zero zero = omega arith
 fault-most zero (suc zero) = omega arith
 fault-most zero (suc (suc zero)) = omega arith
-fault-most zero (suc (suc (suc m))) = omega arith
+fault-most zero (suc (suc (suc zero))) = omega arith
+fault-most zero (suc (suc (suc (suc m)))) = omega arith
 fault-most (suc zero) zero = omega arith
 fault-most (suc zero) (suc zero) = omega arith
 fault-most (suc zero) (suc (suc zero)) = omega arith
-fault-most (suc zero) (suc (suc (suc m))) = omega arith
+fault-most (suc zero) (suc (suc (suc zero))) = omega arith
+fault-most (suc zero) (suc (suc (suc (suc m)))) = omega arith
 fault-most (suc (suc zero)) zero = omega arith
 fault-most (suc (suc zero)) (suc zero) = omega arith
 fault-most (suc (suc zero)) (suc (suc zero)) = omega arith
-fault-most (suc (suc zero)) (suc (suc (suc m))) = omega arith
-fault-most (suc (suc (suc o))) m = omega arith
+fault-most (suc (suc zero)) (suc (suc (suc zero))) = omega arith
+fault-most (suc (suc zero)) (suc (suc (suc (suc m)))) = omega arith
+fault-most (suc (suc (suc zero))) zero = omega arith
+fault-most (suc (suc (suc zero))) (suc zero) = omega arith
+fault-most (suc (suc (suc zero))) (suc (suc zero)) = omega arith
+fault-most (suc (suc (suc zero))) (suc (suc (suc zero))) = omega arith
+fault-most (suc (suc (suc zero))) (suc (suc (suc (suc m)))) = omega arith
+fault-most (suc (suc (suc (suc o)))) m = omega arith
 
--- a mode that is granted is at most 2, and nothing is granted where the own mode is none
-granted-most : (o m : ℕ) → access-fault o m ≡ 0 → m ≤ 2
+-- a mode that is granted is at most 3, and nothing is granted where the own mode is none
+granted-most : (o m : ℕ) → access-fault o m ≡ 0 → m ≤ 3
 granted-most o zero f = omega arith
 granted-most o (suc zero) f = omega arith
 granted-most o (suc (suc zero)) f = omega arith
-granted-most zero (suc (suc (suc m))) f = absurd (not-zero 0 (unfold access-fault in f))
-granted-most (suc zero) (suc (suc (suc m))) f = absurd (not-zero 0 (unfold access-fault in f))
-granted-most (suc (suc zero)) (suc (suc (suc m))) f = absurd (not-zero 0 (unfold access-fault in f))
-granted-most (suc (suc (suc o))) (suc (suc (suc m))) f = absurd (not-zero 0 (unfold access-fault in f))
+granted-most o (suc (suc (suc zero))) f = omega arith
+granted-most zero (suc (suc (suc (suc m)))) f = absurd (not-zero 0 (unfold access-fault in f))
+granted-most (suc zero) (suc (suc (suc (suc m)))) f = absurd (not-zero 0 (unfold access-fault in f))
+granted-most (suc (suc zero)) (suc (suc (suc (suc m)))) f = absurd (not-zero 0 (unfold access-fault in f))
+granted-most (suc (suc (suc zero))) (suc (suc (suc (suc m)))) f = absurd (not-zero 0 (unfold access-fault in f))
+granted-most (suc (suc (suc (suc o)))) (suc (suc (suc (suc m)))) f = absurd (not-zero 0 (unfold access-fault in f))
 
 pub none-grants : (m : ℕ) → access-fault 0 m ≡ 0 → ⊥
 none-grants zero f = not-zero 0 (unfold access-fault in f)
 none-grants (suc zero) f = not-zero 0 (unfold access-fault in f)
 none-grants (suc (suc zero)) f = not-zero 0 (unfold access-fault in f)
-none-grants (suc (suc (suc m))) f = not-zero 0 (unfold access-fault in f)
+none-grants (suc (suc (suc zero))) f = not-zero 0 (unfold access-fault in f)
+none-grants (suc (suc (suc (suc m)))) f = not-zero 0 (unfold access-fault in f)
 
--- a merged mode is at most 2 where both are
-merged-most : (e m : ℕ) → e ≤ 2 → m ≤ 2 → merged e m ≤ 2
+-- what an own mode grants, a task of a place in the queue has
+pub granted-queued : (o m : ℕ) → access-fault o m ≡ 0 → o ≡ 0 → ⊥
+granted-queued o m f z = none-grants m (subst (λ x. access-fault x m ≡ 0) z f)
+
+-- a merged mode is at most 3 where both are
+merged-most : (e m : ℕ) → e ≤ 3 → m ≤ 3 → merged e m ≤ 3
 unfolding merged
 merged-most zero m p q = q
 merged-most (suc e) zero p q = p
 merged-most (suc e) (suc m) p q = most (eqb e m)
   where
-    most : (same : Bool) → cond same (suc m) 2 ≤ 2
+    most : (same : Bool) → cond same (suc m) 2 ≤ 3
     most true = q
     most false = omega arith
 
@@ -73,7 +88,7 @@ pub none-sound : (locations : ℕ) → ModesSound locations no-modes
 none-sound locations =
     record {
       size = unfold no-modes in length-replicate {A = ℕ} 64 0;
-      most = λ a. subst (λ x. x ≤ 2) (sym (none-at a)) (omega arith);
+      most = λ a. subst (λ x. x ≤ 3) (sym (none-at a)) (omega arith);
       beyond = λ a l. none-at a;
     }
 
@@ -101,10 +116,10 @@ module _ (locations : ℕ) (t : Task) (own-modes : ModesSound locations (t .mode
 
       most :
           (a : ℕ) → (getD after a 0 ≡ getD ms a 0) ⊎ ((a ≡ g .location) × (getD after a 0 ≡ mode))
-          → getD after a 0 ≤ 2
-      most a (inl q) = subst (λ x. x ≤ 2) (sym q) (h .most a)
+          → getD after a 0 ≤ 3
+      most a (inl q) = subst (λ x. x ≤ 3) (sym q) (h .most a)
       most a (inr q) =
-          subst (λ x. x ≤ 2) (sym (q .1))
+          subst (λ x. x ≤ 3) (sym (q .1))
           (merged-most (getD ms (g .location) 0) (g .mode) (h .most (g .location))
           (granted-most (mode-of t (g .location)) (g .mode) f))
 

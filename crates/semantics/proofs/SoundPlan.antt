@@ -11,7 +11,7 @@ use lib.ListN.{length, getD, set}
 use lib.Dec.{ltb, leb, eqb}
 use borrow.Author.Tests.{eqb-true, leb-true, ltb-true, not-false}
 use Rattle.tasklist.specs.declared.Instruction.{Instruction}
-use Rattle.tasklist.specs.declared.Instruction.the-variants.{Const, Add, Sub, Less, Load, Store, Skip, Spawn, Wait, Fan}
+use Rattle.tasklist.specs.declared.Instruction.the-variants.{Const, Add, Sub, Less, Load, Store, Skip, Spawn, Wait, Fan, Sum}
 use Rattle.tasklist.specs.declared.Line.{Line}
 use Rattle.tasklist.specs.declared.Scope.{Scope}
 use Rattle.tasklist.specs.TaskList.{body-of, footprint-of, instruction-of, task-count}
@@ -21,9 +21,9 @@ use Rattle.tasklist.specs.Accepted.{Accepted, scope-of}
 use Rattle.tasklist.specs.Decode
 use Rattle.semantics.specs.Run.{Task, Context, mode-of, register, weight-of}
 use Rattle.semantics.specs.Access.{access-fault}
-use Rattle.semantics.specs.Effect.{Edit, keep, put, Numbered, Effect, Plan, stop, go, fetch, own, in-state, moved, faulted}
+use Rattle.semantics.specs.Effect.{Edit, keep, put, add, Numbered, Effect, Plan, stop, go, fetch, own, in-state, moved, faulted}
 use Rattle.semantics.specs.Footprint.{Grant, denied, granted, child-modes, Children, none-made, all-made, children, fan-of}
-use Rattle.semantics.specs.Plan.{wrap, unless-fault, plan-load, plan-store, plan-wait, passed-over, child-number, plan-make, plan-instruction, units, step-weight, at-end, plan-start, plan-step, plan-end, Action, start, step, end, plan}
+use Rattle.semantics.specs.Plan.{wrap, unless-fault, plan-load, plan-store, plan-wait, plan-sum, passed-over, child-number, plan-make, plan-instruction, units, step-weight, at-end, plan-start, plan-step, plan-end, Action, start, step, end, plan}
 use Rattle.semantics.specs.Sound.{In, ModesSound, RegistersSound, TaskSound, rank}
 use Rattle.semantics.proofs.Order.{and-left, and-right}
 use Rattle.semantics.proofs.Modes.{not-zero}
@@ -40,6 +40,7 @@ pub record NewSound (c : Context) (t : Task) : Type 0 where
 abbrev pub SmallEdit : Edit → Type 0
 SmallEdit keep = Unit {0}
 SmallEdit (put a v) = v < 2 ^ 32
+SmallEdit (add a v) = Unit {0}
 
 pub record EffectSound (c : Context) (most : ℕ) (t : Task) (e : Effect) : Type 0 where
   pub task : TaskSound c (e .task)
@@ -56,7 +57,7 @@ PlanSound c most t (stop k) = Unit {0}
 PlanSound c most t (go gs e) = EffectSound c most t e
 PlanSound c most t (fetch a f) = (v : ℕ) → v < 2 ^ 32 → EffectSound c most t (f v)
 
-wrapped : (x : ℕ) → wrap x < 2 ^ 32
+pub wrapped : (x : ℕ) → wrap x < 2 ^ 32
 wrapped x = mod-lt x (omega arith)
 
 passed-most : (x b : ℕ) → passed-over x b ≤ b
@@ -127,6 +128,22 @@ module _
           ranked = rank-on k rs;
           paid = refl;
           edit = tt;
+          weight = m;
+          made = λ x i. absurd i;
+          left = λ x. absurd (false≢true x);
+        }
+
+    -- one step on that may edit the memory
+    edit-sound :
+        (w : ℕ) (E : Edit) → w ≤ most → SmallEdit E
+        → EffectSound c most t (record { task = moved 1 (t .registers) t; edit = E; made = []; leaves = false; weight = w })
+    edit-sound w E m s =
+        record {
+          task = moved-sound 1 (t .registers) (omega arith) (omega arith) (h .registers);
+          alive = started;
+          ranked = rank-on 1 (t .registers);
+          paid = refl;
+          edit = s;
           weight = m;
           made = λ x i. absurd i;
           left = λ x. absurd (false≢true x);
@@ -215,7 +232,7 @@ module _
     instruction-sound :
         (w : ℕ) → w ≤ most → (i : Instruction) → instruction-ok (scope-of (c .list) (t .body) (t .pc)) i ≡ true
         → PlanSound c most t (plan-instruction c w n t i)
-    unfolding plan-instruction plan-load plan-store plan-wait instruction-ok
+    unfolding plan-instruction plan-load plan-store plan-wait plan-sum instruction-ok
     instruction-sound w m (Const a v) q = set-on w a (wrap v) m (wrapped v)
     instruction-sound w m (Add a x y) q = set-on w a _ m (wrapped (register t x + register t y))
     instruction-sound w m (Sub a x y) q = set-on w a _ m (wrapped (register t x + 2 ^ 32 - register t y))
@@ -228,16 +245,7 @@ module _
         fault-or (access-fault (mode-of t (register t x)) 1) w _ m (fault-most (mode-of t (register t x)) 1) (λ v k. set-on w a v m k)
     instruction-sound w m (Store a x) q =
         fault-or (access-fault (mode-of t (register t a)) 2) w _ m (fault-most (mode-of t (register t a)) 2)
-        (record {
-          task = moved-sound 1 (t .registers) (omega arith) (omega arith) (h .registers);
-          alive = started;
-          ranked = rank-on 1 (t .registers);
-          paid = refl;
-          edit = h .registers .small x;
-          weight = m;
-          made = λ y i. absurd i;
-          left = λ y. absurd (false≢true y);
-        })
+        (edit-sound w (put (register t a) (register t x)) m (h .registers .small x))
     instruction-sound w m (Skip a b) q =
         let room = leb-true (t .pc + 1 + b) (length (body-of (c .list) (t .body))) (and-right (Decode.register a) _ q) in
         let p = passed-most (register t a) b in
@@ -258,6 +266,9 @@ module _
         let v = fan-in 0 k t x i in
         subst (λ y. (y .modes ≡ t .modes) × RegistersSound (y .registers)) (sym (v .1))
         (refl, registers-set (t .registers) 0 (v .0) (h .registers) (omega (arith, v .2, fits .1)))))
+    instruction-sound w m (Sum a x) q =
+        fault-or (access-fault (mode-of t (register t a)) 3) w _ m (fault-most (mode-of t (register t a)) 3)
+        (edit-sound w (add (register t a) (register t x)) m tt)
 
 -- a step weighs its code's number at most 16 times
 units-most : (at : Scope) (i : Instruction) → instruction-ok at i ≡ true → units i ≤ 16
@@ -272,6 +283,7 @@ units-most at (Skip a b) q = omega arith
 units-most at (Spawn s f) q = omega arith
 units-most at (Wait a) q = omega arith
 units-most at (Fan s f k) q = fan-fits at s f k q .1
+units-most at (Sum a x) q = omega arith
 
 module _
     (c : Context) (ok : Accepted (c .list)) (most : ℕ) (light : (place : ℕ) → 16 * weight-of c place ≤ most) (n : ℕ)

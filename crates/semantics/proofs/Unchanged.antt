@@ -2,17 +2,16 @@
 use Prim.Native.Nat.{ℕ, zero, suc}
 use mathlib.Core.Path.{_≡_, refl, ap, subst, _∙_}
 use mathlib.Core.Option.{none}
-use mathlib.Core.Logic.{inl, inr, _≢_}
+use mathlib.Core.Logic.{_⊎_, inl, inr, _≢_}
 use lib.ListN.{getD}
 use lib.Seq.{getD-set-other}
 use Rattle.tasklist.specs.Accepted.{Accepted}
 use Rattle.semantics.specs.Run.{Run, Context, mode-of, task-of, start-weight, end-weight}
-use Rattle.semantics.specs.Access.{access-fault}
-use Rattle.semantics.specs.Effect.{Edit, keep, put, Effect, own, in-state, leaving}
+use Rattle.semantics.specs.Effect.{Edit, keep, put, add, Effect, own, in-state, leaving}
 use Rattle.semantics.specs.Plan.{start, end}
 use Rattle.semantics.specs.Call.{Call, refuse, accept, decide, edited, charged, apply, taken, call, or-same, after}
 use Rattle.semantics.specs.Sound.{In, Valid}
-use Rattle.semantics.proofs.Modes.{not-zero}
+use Rattle.semantics.proofs.Modes.{only-writers, only-summers}
 use Rattle.semantics.proofs.Apply.{touched, numbers-in, task-other}
 use Rattle.semantics.proofs.Decide.{Settled, Accepts, settled-ready}
 use Rattle.semantics.proofs.Valid.{never-state, accepted-fair, made-is-future}
@@ -46,13 +45,6 @@ module _ (c : Context) (r : Run) (n : ℕ) (e : Effect) where
   end-effect h =
       subst (λ p. Settled r n p e) (end-plan c n (task-of r n) (settled-ready c r n (task-of r n) e end (h .settled))) (h .settled) .1
 
--- only mode write stores
-only-writers : (o : ℕ) → access-fault o 2 ≡ 0 → o ≡ 2
-only-writers zero f = absurd (not-zero 0 (unfold access-fault in f))
-only-writers (suc zero) f = absurd (not-zero 1 (unfold access-fault in f))
-only-writers (suc (suc zero)) f = refl
-only-writers (suc (suc (suc o))) f = absurd (not-zero 0 (unfold access-fault in f))
-
 -- What an accepted call of b's task leaves as it was in r, in the run r′ after it.
 pub record Unchanged (r r′ : Run) (b : Call) : Type 0 where
   -- the task's own body and modes
@@ -60,8 +52,10 @@ pub record Unchanged (r r′ : Run) (b : Call) : Type 0 where
   pub modes : task-of r′ (b .task) .modes ≡ task-of r (b .task) .modes
   -- every other task that was made before
   pub others : (k : ℕ) → k ≢ b .task → (task-of r k .state ≡ 0 → ⊥) → task-of r′ k ≡ task-of r k
-  -- every location at which the task's mode isn't write
-  pub memory : (a : ℕ) → (mode-of (task-of r (b .task)) a ≡ 2 → ⊥) → getD (r′ .memory) a 0 ≡ getD (r .memory) a 0
+  -- every location at which the task's mode is neither write nor sum
+  pub memory :
+      (a : ℕ) → (mode-of (task-of r (b .task)) a ≡ 2 → ⊥) → (mode-of (task-of r (b .task)) a ≡ 3 → ⊥)
+      → getD (r′ .memory) a 0 ≡ getD (r .memory) a 0
 
 pub unchanged :
     (c : Context) → Accepted (c .list) → (r : Run) → Valid c r → (b : Call) (e : Effect) → Accepts c r b e
@@ -71,7 +65,7 @@ unchanged c ok r v b e h =
       body = ap (λ t. t .body) own-record ∙ accepted-fair c ok r v b e h .body;
       modes = ap (λ t. t .modes) own-record ∙ accepted-fair c ok r v b e h .modes;
       others = λ k ne s. task-other (b .task) e r k (absent k ne s);
-      memory = λ a m. unfold apply in elsewhere (e .edit) (backed c ok r v b e h) a m;
+      memory = λ a m s. unfold apply in elsewhere (e .edit) (backed c ok r v b e h) a m s;
     }
   where
     own-record : task-of (apply (b .task) e r) (b .task) ≡ charged (e .weight) (e .task)
@@ -86,9 +80,16 @@ unchanged c ok r v b e h =
 
     elsewhere :
         (E : Edit) → Backed r (b .task) E → (a : ℕ) → (mode-of (task-of r (b .task)) a ≡ 2 → ⊥)
-        → getD (edited E (r .memory)) a 0 ≡ getD (r .memory) a 0
-    elsewhere keep k a m = unfold edited in refl
-    elsewhere (put l w) k a m =
+        → (mode-of (task-of r (b .task)) a ≡ 3 → ⊥) → getD (edited E (r .memory)) a 0 ≡ getD (r .memory) a 0
+    elsewhere keep k a m s = unfold edited in refl
+    elsewhere (put l w) k a m s =
         unfold edited in
         getD-set-other (r .memory) l a w 0
         (λ q. m (ap (mode-of (task-of r (b .task))) q ∙ only-writers (mode-of (task-of r (b .task)) l) (k .1)))
+    elsewhere (add l w) k a m s =
+        unfold edited in
+        getD-set-other (r .memory) l a _ 0 (λ q. sort q (only-summers (mode-of (task-of r (b .task)) l) (k .1)))
+      where
+        sort : a ≡ l → (mode-of (task-of r (b .task)) l ≡ 2) ⊎ (mode-of (task-of r (b .task)) l ≡ 3) → ⊥
+        sort q (inl x) = m (ap (mode-of (task-of r (b .task))) q ∙ x)
+        sort q (inr x) = s (ap (mode-of (task-of r (b .task))) q ∙ x)

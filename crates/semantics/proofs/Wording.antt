@@ -1,6 +1,6 @@
 -- The guards over the whole order are document 01's words on queues: "all ahead of it in that queue have mode 1", "none is
--- ahead", and request 102's "a job of mode write is ahead". A footprint is a set: the order of the lines that name a location
--- doesn't matter to its mode. Assumes nothing.
+-- ahead", request 107's "when all ahead have mode 3", and request 102's "a job of mode write is ahead". A footprint is a set: the
+-- order of the lines that name a location doesn't matter to its mode. Assumes nothing.
 use Prim.Native.Nat.{ℕ, zero, suc, _+_, _≤_}
 use mathlib.Core.Path.{_≡_, refl, sym, ap, subst, _∙_}
 use mathlib.Core.List.{List, [], _∷_}
@@ -13,12 +13,12 @@ use lib.ListN.{length, getD}
 use lib.Dec.{eqb, eqb·suc-zero}
 use borrow.Author.Tests.{eq-eqb, ne-eqb}
 use Rattle.semantics.specs.Run.{Run, mode-of, task-of}
-use Rattle.semantics.specs.Access.{Access, reads, writes, every, any, only, ahead, queue, may-read, may-write, behind-writer, compatible, allowed}
+use Rattle.semantics.specs.Access.{Access, reads, writes, sums, every, any, only, ahead, queue, may-read, may-write, may-sum, behind-writer, compatible, allowed}
 use Rattle.semantics.specs.Footprint.{merged}
 use Rattle.semantics.specs.Plan.{needs-from}
 use Rattle.semantics.specs.Sound.{In}
 use Rattle.semantics.proofs.Order.{every-in, in-every, ahead-self, ahead-other}
-use Rattle.semantics.proofs.Modes.{not-zero}
+use Rattle.semantics.proofs.Modes.{not-zero, write-behind}
 
 only-keep : (p : ℕ → Bool) (k : ℕ) (o : List ℕ) → p k ≡ true → only p (k ∷ o) ≡ k ∷ only p o
 unfolding only
@@ -33,14 +33,16 @@ unfolding compatible
 compatible-reading zero h = absurd (h refl)
 compatible-reading (suc zero) h = refl
 compatible-reading (suc (suc zero)) h = refl
-compatible-reading (suc (suc (suc m))) h = sym (ne-eqb (suc (suc (suc m))) 1 (λ q. omega arith))
+compatible-reading (suc (suc (suc zero))) h = refl
+compatible-reading (suc (suc (suc (suc m)))) h = sym (ne-eqb (suc (suc (suc (suc m)))) 1 (λ q. omega arith))
 
-compatible-writing : (m : ℕ) → (m ≡ 0 → ⊥) → compatible m 2 ≡ false
+compatible-summing : (m : ℕ) → (m ≡ 0 → ⊥) → compatible m 3 ≡ eqb m 3
 unfolding compatible
-compatible-writing zero h = absurd (h refl)
-compatible-writing (suc zero) h = refl
-compatible-writing (suc (suc zero)) h = refl
-compatible-writing (suc (suc (suc m))) h = refl
+compatible-summing zero h = absurd (h refl)
+compatible-summing (suc zero) h = refl
+compatible-summing (suc (suc zero)) h = refl
+compatible-summing (suc (suc (suc zero))) h = refl
+compatible-summing (suc (suc (suc (suc m)))) h = sym (ne-eqb (suc (suc (suc (suc m)))) 3 (λ q. omega arith))
 
 -- over any modes of the tasks at one location
 module _ (mode : ℕ → ℕ) (n : ℕ) (own : mode n ≡ 0 → ⊥) where
@@ -50,29 +52,30 @@ module _ (mode : ℕ → ℕ) (n : ℕ) (own : mode n ≡ 0 → ⊥) where
   is-absent : (k : ℕ) → mode k ≡ 0 → not (eqb (mode k) 0) ≡ false
   is-absent k h = rw (eq-eqb (mode k) 0 h) refl
 
-  read-words :
-      (o : List ℕ)
-      → every (λ k. compatible (mode k) 1) (ahead n o) ≡ every (λ k. eqb (mode k) 1) (ahead n (only (λ k. not (eqb (mode k) 0)) o))
-  read-words [] = unfold ahead only every in refl
-  read-words (k ∷ o) = sort (read-words o) (ℕ-discrete k n) (ℕ-discrete (mode k) 0)
+  -- a mode that stands behind none and behind tasks of its own kind: read or sum
+  shared-words :
+      (w : ℕ) → compatible 0 w ≡ true → ((m : ℕ) → (m ≡ 0 → ⊥) → compatible m w ≡ eqb m w) → (o : List ℕ)
+      → every (λ k. compatible (mode k) w) (ahead n o) ≡ every (λ k. eqb (mode k) w) (ahead n (only (λ k. not (eqb (mode k) 0)) o))
+  shared-words w free alike [] = unfold ahead only every in refl
+  shared-words w free alike (k ∷ o) = sort (shared-words w free alike o) (ℕ-discrete k n) (ℕ-discrete (mode k) 0)
     where
       queued : ℕ → Bool
       queued j = not (eqb (mode j) 0)
 
-      reading : ℕ → Bool
-      reading j = eqb (mode j) 1
+      same-mode : ℕ → Bool
+      same-mode j = eqb (mode j) w
 
       sort :
-          every (λ k. compatible (mode k) 1) (ahead n o) ≡ every reading (ahead n (only queued o)) → Dec (k ≡ n) → Dec (mode k ≡ 0)
-          → every (λ k. compatible (mode k) 1) (ahead n (k ∷ o)) ≡ every reading (ahead n (only queued (k ∷ o)))
+          every (λ k. compatible (mode k) w) (ahead n o) ≡ every same-mode (ahead n (only queued o)) → Dec (k ≡ n) → Dec (mode k ≡ 0)
+          → every (λ k. compatible (mode k) w) (ahead n (k ∷ o)) ≡ every same-mode (ahead n (only queued (k ∷ o)))
       sort ih (yes p) z =
           rw (ahead-self n k o p, only-keep queued k o (is-present k (λ q. own (ap mode (sym p) ∙ q))), ahead-self n k (only queued o) p)
           (unfold every in refl)
       sort ih (no p) (yes z) =
-          rw (ahead-other n k o p, only-drop queued k o (is-absent k z)) (unfold every compatible in rw z ih)
+          rw (ahead-other n k o p, only-drop queued k o (is-absent k z)) (unfold every in rw (z, free) ih)
       sort ih (no p) (no z) =
           rw (ahead-other n k o p, only-keep queued k o (is-present k z), ahead-other n k (only queued o) p)
-          (unfold every in rw (compatible-reading (mode k) z, ih) refl)
+          (unfold every in rw (alike (mode k) z, ih) refl)
 
   write-words :
       (o : List ℕ)
@@ -93,7 +96,7 @@ module _ (mode : ℕ → ℕ) (n : ℕ) (own : mode n ≡ 0 → ⊥) where
           rw (ahead-other n k o p, only-drop queued k o (is-absent k z)) (unfold every compatible in rw z ih)
       sort ih (no p) (no z) =
           rw (ahead-other n k o p, only-keep queued k o (is-present k z), ahead-other n k (only queued o) p)
-          (unfold every in rw (compatible-writing (mode k) z, eqb·suc-zero (length (ahead n (only queued o)))) refl)
+          (unfold every in rw (write-behind (mode k) z, eqb·suc-zero (length (ahead n (only queued o)))) refl)
 
   writer-words :
       (o : List ℕ)
@@ -126,11 +129,15 @@ module _ (r : Run) (n a : ℕ) (own : mode-of (task-of r n) a ≡ 0 → ⊥) whe
 
   pub read-wording : allowed r n (reads a) ≡ may-read r n a
   unfolding allowed may-read queue
-  read-wording = read-words (λ k. mode-of (task-of r k) a) n own (r .order)
+  read-wording = shared-words (λ k. mode-of (task-of r k) a) n own 1 (unfold compatible in refl) compatible-reading (r .order)
 
   pub write-wording : allowed r n (writes a) ≡ may-write r n a
   unfolding allowed may-write queue
   write-wording = write-words (λ k. mode-of (task-of r k) a) n own (r .order)
+
+  pub sum-wording : allowed r n (sums a) ≡ may-sum r n a
+  unfolding allowed may-sum queue
+  sum-wording = shared-words (λ k. mode-of (task-of r k) a) n own 3 (unfold compatible in refl) compatible-summing (r .order)
 
 -- what a start needs: each location with a mode that isn't 0, in that mode
 needs-complete :
@@ -161,22 +168,24 @@ needs-sound (suc m ∷ ms) b g (inl q) =
     (0, ap (λ x. x .location) q ∙ sym (add-zero b), ap (λ x. x .mode) q, λ z. not-zero m (sym (ap (λ x. x .mode) q) ∙ z))
 needs-sound (suc m ∷ ms) b g (inr i) = needs-later (suc m) ms b g (needs-sound ms (suc b) g i)
 
--- "the job may read each entry of mode 1 and write each of mode 2"
+-- "the job may read each entry of mode 1 and write each of mode 2"; request 107: "may start as far as that entry goes" where it
+-- may sum each of mode 3
 abbrev pub MayStart : Run → ℕ → Type 0
 MayStart r n =
     (a : ℕ)
     → (mode-of (task-of r n) a ≡ 1 → may-read r n a ≡ true) × (mode-of (task-of r n) a ≡ 2 → may-write r n a ≡ true)
+    × (mode-of (task-of r n) a ≡ 3 → may-sum r n a ≡ true)
 
 module _ (r : Run) (n : ℕ) where
   pub start-wording : every (allowed r n) (needs-from 0 (task-of r n .modes)) ≡ true → MayStart r n
-  start-wording h a =
-      ((λ q. sym (read-wording r n a (λ z. one-not q z)) ∙ need 0 q), (λ q. sym (write-wording r n a (λ z. two-not q z)) ∙ need 1 q))
+  start-wording h a = (
+    λ q. sym (read-wording r n a (queued 0 q)) ∙ need 0 q,
+    λ q. sym (write-wording r n a (queued 1 q)) ∙ need 1 q,
+    λ q. sym (sum-wording r n a (queued 2 q)) ∙ need 2 q,
+  )
     where
-      one-not : mode-of (task-of r n) a ≡ 1 → mode-of (task-of r n) a ≡ 0 → ⊥
-      one-not p q = omega arith
-
-      two-not : mode-of (task-of r n) a ≡ 2 → mode-of (task-of r n) a ≡ 0 → ⊥
-      two-not p q = omega arith
+      queued : (m : ℕ) → mode-of (task-of r n) a ≡ suc m → mode-of (task-of r n) a ≡ 0 → ⊥
+      queued m p q = omega arith
 
       need : (m : ℕ) → mode-of (task-of r n) a ≡ suc m → allowed r n (record { location = a; mode = suc m }) ≡ true
       need m q =
@@ -185,24 +194,25 @@ module _ (r : Run) (n : ℕ) where
           (needs-complete (task-of r n .modes) 0 a m q))
 
   pub wording-starts :
-      ((a : ℕ) → mode-of (task-of r n) a ≤ 2) → MayStart r n
+      ((a : ℕ) → mode-of (task-of r n) a ≤ 3) → MayStart r n
       → every (allowed r n) (needs-from 0 (task-of r n .modes)) ≡ true
   wording-starts most h = in-every (allowed r n) (needs-from 0 (task-of r n .modes)) each
     where
       sort :
-          (a m : ℕ) → mode-of (task-of r n) a ≡ m → (m ≡ 0 → ⊥) → m ≤ 2
+          (a m : ℕ) → mode-of (task-of r n) a ≡ m → (m ≡ 0 → ⊥) → m ≤ 3
           → allowed r n (record { location = a; mode = m }) ≡ true
       sort a zero q z l = absurd (z refl)
       sort a (suc zero) q z l = read-wording r n a (λ p. z (sym q ∙ p)) ∙ h a .0 q
       sort a (suc (suc zero)) q z l = write-wording r n a (λ p. z (sym q ∙ p)) ∙ h a .1 q
-      sort a (suc (suc (suc m))) q z l = let bad : ⊥ = omega arith in absurd bad
+      sort a (suc (suc (suc zero))) q z l = sum-wording r n a (λ p. z (sym q ∙ p)) ∙ h a .2 q
+      sort a (suc (suc (suc (suc m)))) q z l = let bad : ⊥ = omega arith in absurd bad
 
       each : (g : Access) → In g (needs-from 0 (task-of r n .modes)) → allowed r n g ≡ true
       each g i =
           let k = needs-sound (task-of r n .modes) 0 g i in
           let at : g .location ≡ k .0 = k .1 ∙ zero-add (k .0) in
           let mode : mode-of (task-of r n) (g .location) ≡ g .mode = ap (mode-of (task-of r n)) at ∙ sym (k .2) in
-          sort (g .location) (g .mode) mode (k .3) (subst (λ x. x ≤ 2) mode (most (g .location)))
+          sort (g .location) (g .mode) mode (k .3) (subst (λ x. x ≤ 3) mode (most (g .location)))
 
 -- request 106: one common mode, else write, whichever line is first
 merged-common : (m : ℕ) → merged m m ≡ m

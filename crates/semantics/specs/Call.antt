@@ -8,8 +8,8 @@ use lib.ListN.{getD, set}
 use lib.Dec.{ltb, eqb}
 use Rattle.semantics.specs.Run.{Task, Run, Context, task-of}
 use Rattle.semantics.specs.Access.{Access, reads, every, any, behind-writer, allowed}
-use Rattle.semantics.specs.Effect.{Edit, keep, put, Numbered, Effect, Plan, stop, go, fetch}
-use Rattle.semantics.specs.Plan.{Action, plan}
+use Rattle.semantics.specs.Effect.{Edit, keep, put, add, Numbered, Effect, Plan, stop, go, fetch}
+use Rattle.semantics.specs.Plan.{wrap, Action, plan}
 
 -- "The calls of demand 3 are start, step and end, each with any job number"
 pub record Call : Type 0 where
@@ -47,10 +47,15 @@ decide c r b =
     let outcome = settle r n (plan c (b .action) n (task-of r n)) in
     cond (ltb n 128) (cond (among n (r .order)) outcome (refuse 10)) (refuse 9)
 
+-- request 107: "entry + Rb modulo 2^32"
+abbrev pub sum-of : ℕ → ℕ → ℕ
+sum-of entry v = wrap (entry + v)
+
 -- the memory after an edit
 unfoldable pub edited : Edit → List ℕ → List ℕ
 edited keep m = m
 edited (put a v) m = set m a v
+edited (add a v) m = set m a (sum-of (getD m a 0) v)
 
 -- the table with these records written
 unfoldable pub written : List Numbered → List Task → List Task

@@ -6,10 +6,11 @@ use lib.ListN.{set}
 use Rattle.semantics.specs.Run.{Task}
 use Rattle.semantics.specs.Access.{Access}
 
--- What a call does to the memory.
+-- What a call does to the memory: nothing, a value put into a location, a value added to it.
 pub data Edit : Type 0 where
   keep : Edit
   put : ℕ → ℕ → Edit
+  add : ℕ → ℕ → Edit
 
 -- A task's number and its record.
 pub record Numbered : Type 0 where
@@ -93,6 +94,10 @@ passes w gs t = go gs (own w (moved 1 (t .registers) t))
 -- one step on, with a value stored
 abbrev pub storing : ℕ → ℕ → ℕ → Task → Effect
 storing w place v t = record { task = moved 1 (t .registers) t; edit = put place v; made = []; leaves = false; weight = w }
+
+-- one step on, with a value added to a location
+abbrev pub adding : ℕ → ℕ → ℕ → Task → Effect
+adding w place v t = record { task = moved 1 (t .registers) t; edit = add place v; made = []; leaves = false; weight = w }
 
 -- "the new job waiting, at place 0, with its sheet, its footprint's modes and a copy of the registers"
 abbrev pub child : ℕ → List ℕ → Task → Task

@@ -10,12 +10,14 @@ use Rattle.semantics.specs.Run.{Task, mode-of, register, no-modes}
 use Rattle.semantics.specs.Access.{Access, access-fault}
 use Rattle.semantics.specs.Effect.{child}
 
--- "Kind 0 reads and 1 writes entry `value`; 2 reads and 3 writes the entry whose number is in register `value`." What one
--- line names, in the order in which it is tested.
+-- "Kind 0 reads and 1 writes entry `value`; 2 reads and 3 writes the entry whose number is in register `value`."; request 107:
+-- "line kind 4 sums a fixed entry, 5 one named by a register". What one line names, in the order in which it is tested.
 unfoldable pub targets : Task → Line → List Access
 targets t l =
-    let place = getD (l .value ∷ l .value ∷ register t (l .value) ∷ register t (l .value) ∷ []) (l .kind) 0 in
-    record { location = place; mode = getD (1 ∷ 2 ∷ 1 ∷ 2 ∷ []) (l .kind) 0 } ∷ []
+    let fixed = l .value in
+    let named = register t (l .value) in
+    let place = getD (fixed ∷ fixed ∷ named ∷ named ∷ fixed ∷ named ∷ []) (l .kind) 0 in
+    record { location = place; mode = getD (1 ∷ 2 ∷ 1 ∷ 2 ∷ 3 ∷ 3 ∷ []) (l .kind) 0 } ∷ []
 
 -- what all lines name, line by line
 unfoldable pub all-targets : Task → List Line → List Access

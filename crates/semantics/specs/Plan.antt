@@ -6,12 +6,12 @@ use mathlib.Core.Bool.{Bool, cond, not, _||_}
 use lib.ListN.{length, getD, take}
 use lib.Dec.{leb, ltb, eqb}
 use Rattle.tasklist.specs.declared.Instruction.{Instruction}
-use Rattle.tasklist.specs.declared.Instruction.the-variants.{Const, Add, Sub, Less, Load, Store, Skip, Spawn, Wait, Fan}
+use Rattle.tasklist.specs.declared.Instruction.the-variants.{Const, Add, Sub, Less, Load, Store, Skip, Spawn, Wait, Fan, Sum}
 use Rattle.tasklist.specs.TaskList.{body-of, footprint-of, instruction-of, total, adds, task-count}
 use Rattle.tasklist.specs.Encode.{instruction-fields}
 use Rattle.semantics.specs.Run.{Task, Context, mode-of, register, start-weight, end-weight, code-weight}
-use Rattle.semantics.specs.Access.{Access, writes, access-fault}
-use Rattle.semantics.specs.Effect.{Plan, stop, go, fetch, own, in-state, moved, assigned, fails, passes, storing, numbered-from, making, leaving}
+use Rattle.semantics.specs.Access.{Access, writes, own-access, access-fault}
+use Rattle.semantics.specs.Effect.{Plan, stop, go, fetch, own, in-state, moved, assigned, fails, passes, storing, adding, numbered-from, making, leaving}
 use Rattle.semantics.specs.Footprint.{Children, none-made, all-made, children, fan-of}
 
 -- "Faults come before waiting": the plan of an access by its fault's number
@@ -33,8 +33,12 @@ plan-store w t place v =
 unfoldable pub plan-wait : ℕ → Task → ℕ → Plan
 plan-wait w t place =
     let own-mode = mode-of t place in
-    let g : Access = record { location = place; mode = own-mode } in
-    unless-fault (access-fault own-mode own-mode) w t (passes w (g ∷ []) t)
+    unless-fault (access-fault own-mode own-mode) w t (passes w (own-access t place ∷ []) t)
+
+-- request 107: "A job of mode 3 may sum .. when all ahead have mode 3; a writer sums only when none is ahead"
+unfoldable pub plan-sum : ℕ → Task → ℕ → ℕ → Plan
+plan-sum w t place v =
+    unless-fault (access-fault (mode-of t place) 3) w t (go (own-access t place ∷ []) (adding w place v t))
 
 -- "if Ra is 0, pass over the next b instructions"
 unfoldable pub passed-over : ℕ → ℕ → ℕ
@@ -56,7 +60,7 @@ plan-make c w n t s (none-made k) = fails w k t
 plan-make c w n t s (all-made ts) =
     go [] (making w (numbered-from (child-number c n t) (task-count (c .list) s) ts) t)
 
--- The ten instructions; "Const, add, sub, less, skip and spawn never wait.", and the fan is "one step that never waits".
+-- The eleven instructions; "Const, add, sub, less, skip and spawn never wait.", and the fan is "one step that never waits".
 unfoldable pub plan-instruction : Context → ℕ → ℕ → Task → Instruction → Plan
 plan-instruction c w n t (Const a v) = go [] (own w (assigned a (wrap v) t))
 plan-instruction c w n t (Add a x y) = go [] (own w (assigned a (wrap (register t x + register t y)) t))
@@ -68,6 +72,7 @@ plan-instruction c w n t (Skip a b) = go [] (own w (moved (1 + passed-over (regi
 plan-instruction c w n t (Spawn s f) = plan-make c w n t s (children s (footprint-of (c .list) f) (t ∷ []))
 plan-instruction c w n t (Wait a) = plan-wait w t (register t a)
 plan-instruction c w n t (Fan s f k) = plan-make c w n t s (children s (footprint-of (c .list) f) (fan-of 0 k t))
+plan-instruction c w n t (Sum a x) = plan-sum w t (register t a) (register t x)
 
 -- how often the number of its code an instruction weighs; request 104: "The weight is 8 × c."
 unfoldable pub units : Instruction → ℕ
@@ -81,6 +86,7 @@ units (Skip a b) = 1
 units (Spawn s f) = 1
 units (Wait a) = 1
 units (Fan s f k) = k
+units (Sum a x) = 1
 
 -- the code of an instruction is the first of its fields
 unfoldable pub step-weight : Context → Instruction → ℕ
@@ -96,7 +102,8 @@ needs-from a [] = []
 needs-from a (zero ∷ ms) = needs-from (suc a) ms
 needs-from a (suc m ∷ ms) = record { location = a; mode = suc m } ∷ needs-from (suc a) ms
 
--- E-START: "the job may read each entry of mode 1 and write each of mode 2; its state becomes 2"; 11 already started
+-- E-START: "the job may read each entry of mode 1 and write each of mode 2; its state becomes 2"; request 107: and sum each of
+-- mode 3; 11 already started
 unfoldable pub plan-start : Context → Task → Plan
 plan-start c t =
     cond (eqb (t .state) 1) (go (needs-from 0 (t .modes)) (own (start-weight c) (in-state 2 t))) (stop 11)

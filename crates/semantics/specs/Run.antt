@@ -7,7 +7,7 @@ use lib.Dec.{leb}
 use Rattle.tasklist.specs.TaskList.{TaskList}
 
 -- "A record has: state (0 never made, 1 waiting, 2 started, 3 ended), sheet, place, four registers, a mode per entry
--- (0 none, 1 read, 2 write; always 0 from C to 63), instructions done, fault, weight."
+-- (0 none, 1 read, 2 write; always 0 from C to 63), instructions done, fault, weight." Request 107: "Add mode 3, sum"
 pub record Task : Type 0 where
   pub state : ℕ
   pub body : ℕ
@@ -60,14 +60,14 @@ pub record Context : Type 0 where
   pub weights : List ℕ
 
 -- "start 5, end 2, codes 0 to 8: 1, 1, 1, 1, 3, 4, 1, 8, 1"; request 104: 8 for each child of a fan; request 105: "Coordinator
--- and preview pass today's numbers"
+-- and preview pass today's numbers"; request 107: 4 for a sum
 unfoldable pub fixed-weights : List ℕ
-fixed-weights = 5 ∷ 2 ∷ 1 ∷ 1 ∷ 1 ∷ 1 ∷ 3 ∷ 4 ∷ 1 ∷ 8 ∷ 1 ∷ 8 ∷ []
+fixed-weights = 5 ∷ 2 ∷ 1 ∷ 1 ∷ 1 ∷ 1 ∷ 3 ∷ 4 ∷ 1 ∷ 8 ∷ 1 ∷ 8 ∷ 4 ∷ []
 
 -- Request 105: "a lent table of 12 numbers of 16 bits: start, end, then codes 0 to 9, code 9's per child"; "Later codes lengthen
--- it by one each."
+-- it by one each.": code 10 makes it 13
 unfoldable pub weight-places : ℕ
-weight-places = 12
+weight-places = 13
 
 -- 22: "a number not in 1 to 1000"
 unfoldable pub is-weight : ℕ → Bool

@@ -40,7 +40,7 @@ pub record Valid (c : Context) (r : Run) : Type 0 where
 -- modes of a list with C locations
 pub record ModesSound (locations : ℕ) (ms : List ℕ) : Type 0 where
   pub size : length ms ≡ 64
-  pub most : (a : ℕ) → getD ms a 0 ≤ 2
+  pub most : (a : ℕ) → getD ms a 0 ≤ 3
   pub beyond : (a : ℕ) → locations ≤ a → getD ms a 0 ≡ 0
 
 pub record RegistersSound (rs : List ℕ) : Type 0 where

@@ -186,7 +186,7 @@ pub fn list_of_shape(rng: &mut Rng, shape: &Shape) -> TaskList {
 }
 
 /// The line names the entry itself, not by a register.
-fn names_entry(line: &Line) -> bool {
+pub fn names_entry(line: &Line) -> bool {
     matches!(line.kind, 0 | 1 | 4)
 }
 

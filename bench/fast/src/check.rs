@@ -18,7 +18,7 @@ impl Index {
 
 /// The bits of an instruction (code least) that must be 0, by its code: registers are 0 to 3, "fields not listed are 0"; a
 /// fan has up to 16 children.
-const ZEROS: [u32; 10] = [
+const ZEROS: [u32; 11] = [
     0x0000_FC00,
     0xFCFC_FC00,
     0xFCFC_FC00,
@@ -29,6 +29,7 @@ const ZEROS: [u32; 10] = [
     0xFF00_0000,
     0xFFFF_FC00,
     0xE000_0000,
+    0xFFFC_FC00,
 ];
 
 pub fn word(field: &[u8]) -> u32 {
@@ -87,8 +88,13 @@ pub fn read(list: &[u8], mut keep: impl FnMut(bool, usize, u16, u8)) -> Result<u
         at += 3;
         let lines = &list[at..list.len().min(at + 2 * count)];
         for line in lines.chunks_exact(2) {
-            let most = if line[0] < 2 { locations } else { 4 };
-            if line[0] > 3 || line[1] >= most {
+            // kinds 0, 1 and 4 name an entry, 2, 3 and 5 a register
+            let most = if 0b01_0011 >> (line[0] & 7) & 1 == 1 {
+                locations
+            } else {
+                4
+            };
+            if line[0] > 5 || line[1] >= most {
                 return Err(4);
             }
         }
@@ -110,7 +116,7 @@ pub fn read(list: &[u8], mut keep: impl FnMut(bool, usize, u16, u8)) -> Result<u
         for (i, field) in body.chunks_exact(4).enumerate() {
             let w = word(field);
             let code = (w & 0xFF) as usize;
-            if code > 9 || w & ZEROS[code] != 0 {
+            if code > 10 || w & ZEROS[code] != 0 {
                 return Err(5);
             }
             let b = (w >> 16 & 0xFF) as usize;

@@ -38,8 +38,8 @@ struct Job<'a> {
     index: Index,
     counts: [u32; 32],
     locations: usize,
-    /// "start, end, then codes 0 to 9, code 9's per child"
-    table: &'a [u16; 12],
+    /// "start, end, then codes 0 to 9, code 9's per child", then that of code 10
+    table: &'a [u16; 13],
 }
 
 pub fn hand_run(file: &[u8], memory: &[u32], table: &[u16], run: &mut Run) -> u32 {
@@ -52,7 +52,7 @@ pub fn hand_run(file: &[u8], memory: &[u32], table: &[u16], run: &mut Run) -> u3
     if memory.len() != locations {
         return 128 + 8;
     }
-    let Ok(table) = <&[u16; 12]>::try_from(table) else {
+    let Ok(table) = <&[u16; 13]>::try_from(table) else {
         return 128 + 21;
     };
     if !table.iter().all(|number| (1..=1000).contains(number)) {
@@ -104,20 +104,22 @@ impl Job<'_> {
         }
     }
 
-    /// Faults 1 and 2 of one entry, by the task's own mode there.
-    fn fault(&self, modes: &[u8; 64], entry: u32, writes: bool) -> u8 {
+    /// Faults 1 and 2 of one entry, by the task's own mode there and what is wanted: mode 2 allows all, 1 and 3 what they
+    /// are themselves (a load or a read line is 1, a store or a write line 2, a sum 3). A wait wants nothing, 0.
+    fn fault(&self, modes: &[u8; 64], entry: u32, wanted: u8) -> u8 {
         if entry as usize >= self.locations {
             return 1;
         }
         match modes[entry as usize & 63] {
             0 => 1,
-            1 if writes => 2,
-            _ => 0,
+            2 => 0,
+            own if wanted == 0 || own == wanted => 0,
+            _ => 2,
         }
     }
 
-    /// The modes of a footprint, or its fault: "Lines are still tested for faults 1 and 2 in turn." Mode write is above read,
-    /// so that "the common mode, or (...) write where the modes differ" is the higher one.
+    /// The modes of a footprint, or its fault: "Lines are still tested for faults 1 and 2 in turn."; "the common mode, or
+    /// (...) write where the modes differ".
     fn granted(
         &self,
         own: &[u8; 64],
@@ -128,18 +130,21 @@ impl Job<'_> {
         let (at, count) = self.index.footprints[footprint & 31];
         let lines = &self.list[at as usize..at as usize + 2 * count as usize];
         for line in lines.chunks_exact(2) {
-            let entry = if line[0] < 2 {
-                line[1] as u32
-            } else {
-                registers[line[1] as usize & 3]
+            let entry = match line[0] {
+                0 | 1 | 4 => line[1] as u32,
+                _ => registers[line[1] as usize & 3],
             };
-            let writes = line[0] & 1 == 1;
-            let fault = self.fault(own, entry, writes);
+            let wanted = [1, 2, 1, 2, 3, 3, 0, 0][line[0] as usize & 7];
+            let fault = self.fault(own, entry, wanted);
             if fault != 0 {
                 return fault;
             }
             let mode = &mut child[entry as usize & 63];
-            *mode = (*mode).max(1 + writes as u8);
+            *mode = if *mode == 0 || *mode == wanted {
+                wanted
+            } else {
+                2
+            };
         }
         0
     }
@@ -184,7 +189,7 @@ impl Job<'_> {
             let (ra, rb) = (registers[a as usize & 3], registers[b as usize & 3]);
             let rc = registers[c as usize & 3];
             done += 1;
-            weight += codes[code as usize % 10] as u32 * if code == 9 { c as u32 } else { 1 };
+            weight += codes[code as usize % 11] as u32 * if code == 9 { c as u32 } else { 1 };
             let mut passed = 0;
             match code {
                 0 => registers[a as usize & 3] = b as u32 + 256 * c as u32,
@@ -192,13 +197,13 @@ impl Job<'_> {
                 2 => registers[a as usize & 3] = rb.wrapping_sub(rc),
                 3 => registers[a as usize & 3] = (rb < rc) as u32,
                 4 => {
-                    fault = self.fault(&run.modes[task], rb, false);
+                    fault = self.fault(&run.modes[task], rb, 1);
                     if fault == 0 {
                         registers[a as usize & 3] = run.memory[rb as usize & 63];
                     }
                 }
                 5 => {
-                    fault = self.fault(&run.modes[task], ra, true);
+                    fault = self.fault(&run.modes[task], ra, 2);
                     if fault == 0 {
                         run.memory[ra as usize & 63] = rb;
                     }
@@ -214,7 +219,14 @@ impl Job<'_> {
                     }
                 }
                 9 => fault = self.fan(run, task, next as usize, w, registers),
-                _ => fault = self.fault(&run.modes[task], ra, false),
+                10 => {
+                    fault = self.fault(&run.modes[task], ra, 3);
+                    if fault == 0 {
+                        let entry = &mut run.memory[ra as usize & 63];
+                        *entry = entry.wrapping_add(rb);
+                    }
+                }
+                _ => fault = self.fault(&run.modes[task], ra, 0),
             }
             if fault != 0 {
                 break;

@@ -29,33 +29,49 @@ use Rattle.arrays.specs.Rows.{row}
 use Rattle.ahead.specs.Ahead.{access, accesses, accesses-of, writes-one, passes-all, held-by, hold-ahead, first-place, searched-ahead, found-by, found-of}
 
 -- the table of the model, row by row
-pub none-ahead : (a : ℕ) → leb a 2 ≡ compatible 0 a
+pub none-ahead : (a : ℕ) → leb a 3 ≡ compatible 0 a
 unfolding compatible
 none-ahead zero = refl
 none-ahead (suc zero) = refl
 none-ahead (suc (suc zero)) = refl
-none-ahead (suc (suc (suc a))) = lt-leb (suc (suc (suc a))) 2 (omega arith)
+none-ahead (suc (suc (suc zero))) = refl
+none-ahead (suc (suc (suc (suc a)))) = lt-leb (suc (suc (suc (suc a)))) 3 (omega arith)
 
 pub read-ahead : (a : ℕ) → leb a 1 ≡ compatible 1 a
 unfolding compatible
 read-ahead zero = refl
 read-ahead (suc zero) = refl
 read-ahead (suc (suc zero)) = refl
-read-ahead (suc (suc (suc a))) = lt-leb (suc (suc (suc a))) 1 (omega arith)
+read-ahead (suc (suc (suc zero))) = refl
+read-ahead (suc (suc (suc (suc a)))) = lt-leb (suc (suc (suc (suc a)))) 1 (omega arith)
 
 pub write-ahead : (a : ℕ) → eqb a 0 ≡ compatible 2 a
 unfolding compatible
 write-ahead zero = refl
 write-ahead (suc zero) = refl
 write-ahead (suc (suc zero)) = refl
-write-ahead (suc (suc (suc a))) = ne-eqb (suc (suc (suc a))) 0 (λ q. omega arith)
+write-ahead (suc (suc (suc zero))) = refl
+write-ahead (suc (suc (suc (suc a)))) = ne-eqb (suc (suc (suc (suc a)))) 0 (λ q. omega arith)
 
-pub other-ahead : (m a : ℕ) → m ≢ 0 → m ≢ 1 → m ≢ 2 → false ≡ compatible m a
+pub none-passes-sum : true ≡ compatible 3 0
 unfolding compatible
-other-ahead zero a p q r = absurd (p refl)
-other-ahead (suc zero) a p q r = absurd (q refl)
-other-ahead (suc (suc zero)) a p q r = absurd (r refl)
-other-ahead (suc (suc (suc m))) a p q r = refl
+none-passes-sum = refl
+
+pub sum-ahead : (a : ℕ) → a ≢ 0 → eqb a 3 ≡ compatible 3 a
+unfolding compatible
+sum-ahead zero h = absurd (h refl)
+sum-ahead (suc zero) h = refl
+sum-ahead (suc (suc zero)) h = refl
+sum-ahead (suc (suc (suc zero))) h = refl
+sum-ahead (suc (suc (suc (suc a)))) h = ne-eqb (suc (suc (suc (suc a)))) 3 (λ q. omega arith)
+
+pub other-ahead : (m a : ℕ) → m ≢ 0 → m ≢ 1 → m ≢ 2 → m ≢ 3 → false ≡ compatible m a
+unfolding compatible
+other-ahead zero a p q r s = absurd (p refl)
+other-ahead (suc zero) a p q r s = absurd (q refl)
+other-ahead (suc (suc zero)) a p q r s = absurd (r refl)
+other-ahead (suc (suc (suc zero))) a p q r s = absurd (s refl)
+other-ahead (suc (suc (suc (suc m)))) a p q r s = refl
 
 abbrev pub searched : Hold → ℕ → Searched
 searched hold looked = record { hold = hold; looked = looked }

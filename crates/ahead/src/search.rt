@@ -19,13 +19,19 @@ pub fn passable(mode: u8, asked: u8) -> bool
     ensures { λ r. ⌜ r ≡ compatible mode asked ⌝ }
 {
     if mode == 0 {
-        return asked <= 2;
+        return asked <= 3;
     }
     if mode == 1 {
         return asked <= 1;
     }
     if mode == 2 {
         return asked == 0;
+    }
+    if mode == 3 {
+        if asked == 0 {
+            return true;
+        }
+        return asked == 3;
     }
     false
 }

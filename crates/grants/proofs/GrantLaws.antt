@@ -17,86 +17,116 @@ use Rattle.ahead.specs.Ahead.{access}
 use Rattle.grants.specs.Grants.{named-location, named-mode, spawner}
 
 -- the fault of an access, by the own mode and the mode asked for
-pub asked-beyond : (own asked : ℕ) → 2 < asked → 1 ≡ access-fault own asked
+pub asked-beyond : (own asked : ℕ) → 3 < asked → 1 ≡ access-fault own asked
 unfolding access-fault
 asked-beyond own zero h = let z : ⊥ = omega arith in absurd z
 asked-beyond own (suc zero) h = let z : ⊥ = omega arith in absurd z
 asked-beyond own (suc (suc zero)) h = let z : ⊥ = omega arith in absurd z
-asked-beyond zero (suc (suc (suc a))) h = refl
-asked-beyond (suc zero) (suc (suc (suc a))) h = refl
-asked-beyond (suc (suc zero)) (suc (suc (suc a))) h = refl
-asked-beyond (suc (suc (suc o))) (suc (suc (suc a))) h = refl
+asked-beyond own (suc (suc (suc zero))) h = let z : ⊥ = omega arith in absurd z
+asked-beyond zero (suc (suc (suc (suc a)))) h = refl
+asked-beyond (suc zero) (suc (suc (suc (suc a)))) h = refl
+asked-beyond (suc (suc zero)) (suc (suc (suc (suc a)))) h = refl
+asked-beyond (suc (suc (suc zero))) (suc (suc (suc (suc a)))) h = refl
+asked-beyond (suc (suc (suc (suc o)))) (suc (suc (suc (suc a)))) h = refl
 
-pub own-read : (asked : ℕ) → asked ≤ 2 → asked ≢ 2 → 0 ≡ access-fault 1 asked
+pub own-read : (asked : ℕ) → asked ≤ 1 → 0 ≡ access-fault 1 asked
 unfolding access-fault
-own-read zero h ne = refl
-own-read (suc zero) h ne = refl
-own-read (suc (suc zero)) h ne = absurd (ne refl)
-own-read (suc (suc (suc a))) h ne = let z : ⊥ = omega arith in absurd z
+own-read zero h = refl
+own-read (suc zero) h = refl
+own-read (suc (suc a)) h = let z : ⊥ = omega arith in absurd z
 
-pub own-read-asked-write : 2 ≡ access-fault 1 2
+pub own-read-asked-more : (asked : ℕ) → 1 < asked → asked ≤ 3 → 2 ≡ access-fault 1 asked
 unfolding access-fault
-own-read-asked-write = refl
+own-read-asked-more zero l h = let z : ⊥ = omega arith in absurd z
+own-read-asked-more (suc zero) l h = let z : ⊥ = omega arith in absurd z
+own-read-asked-more (suc (suc zero)) l h = refl
+own-read-asked-more (suc (suc (suc zero))) l h = refl
+own-read-asked-more (suc (suc (suc (suc a)))) l h = let z : ⊥ = omega arith in absurd z
 
-pub own-write : (asked : ℕ) → asked ≤ 2 → 0 ≡ access-fault 2 asked
+pub own-write : (asked : ℕ) → asked ≤ 3 → 0 ≡ access-fault 2 asked
 unfolding access-fault
 own-write zero h = refl
 own-write (suc zero) h = refl
 own-write (suc (suc zero)) h = refl
-own-write (suc (suc (suc a))) h = let z : ⊥ = omega arith in absurd z
+own-write (suc (suc (suc zero))) h = refl
+own-write (suc (suc (suc (suc a)))) h = let z : ⊥ = omega arith in absurd z
 
-pub own-other : (own asked : ℕ) → own ≢ 1 → own ≢ 2 → 1 ≡ access-fault own asked
+pub own-sum-asked-read : 2 ≡ access-fault 3 1
 unfolding access-fault
-own-other zero zero p q = refl
-own-other zero (suc zero) p q = refl
-own-other zero (suc (suc zero)) p q = refl
-own-other zero (suc (suc (suc a))) p q = refl
-own-other (suc zero) a p q = absurd (p refl)
-own-other (suc (suc zero)) a p q = absurd (q refl)
-own-other (suc (suc (suc o))) a p q = refl
+own-sum-asked-read = refl
+
+pub own-sum-asked-write : 2 ≡ access-fault 3 2
+unfolding access-fault
+own-sum-asked-write = refl
+
+pub own-sum : (asked : ℕ) → asked ≤ 3 → asked ≢ 1 → asked ≢ 2 → 0 ≡ access-fault 3 asked
+unfolding access-fault
+own-sum zero h p q = refl
+own-sum (suc zero) h p q = absurd (p refl)
+own-sum (suc (suc zero)) h p q = absurd (q refl)
+own-sum (suc (suc (suc zero))) h p q = refl
+own-sum (suc (suc (suc (suc a)))) h p q = let z : ⊥ = omega arith in absurd z
+
+pub own-other : (own asked : ℕ) → own ≢ 1 → own ≢ 2 → own ≢ 3 → 1 ≡ access-fault own asked
+unfolding access-fault
+own-other zero zero p q r = refl
+own-other zero (suc zero) p q r = refl
+own-other zero (suc (suc zero)) p q r = refl
+own-other zero (suc (suc (suc zero))) p q r = refl
+own-other zero (suc (suc (suc (suc a)))) p q r = refl
+own-other (suc zero) a p q r = absurd (p refl)
+own-other (suc (suc zero)) a p q r = absurd (q refl)
+own-other (suc (suc (suc zero))) a p q r = absurd (r refl)
+own-other (suc (suc (suc (suc o)))) a p q r = refl
 
 -- what a line names, by its kind
-pub names-value : (registers : List ℕ) (l : Line) → l .kind < 2 → l .value ≡ named-location registers l
-unfolding named-location
-names-value registers l h = by-kind (l .kind) h
-  where
-    by-kind : (k : ℕ) → k < 2 → l .value ≡ getD (l .value ∷ l .value ∷ getD registers (l .value) 0 ∷ getD registers (l .value) 0 ∷ []) k 0
-    by-kind zero h = refl
-    by-kind (suc zero) h = refl
-    by-kind (suc (suc k)) h = let z : ⊥ = omega arith in absurd z
+abbrev named-by : List ℕ → ℕ → ℕ → ℕ
+named-by registers value k =
+    getD (value ∷ value ∷ getD registers value 0 ∷ getD registers value 0 ∷ value ∷ getD registers value 0 ∷ []) k 0
 
-pub names-register : (registers : List ℕ) (l : Line) → 2 ≤ l .kind → l .kind < 4 → getD registers (l .value) 0 ≡ named-location registers l
-unfolding named-location
-names-register registers l b h = by-kind (l .kind) b h
-  where
-    by-kind : (k : ℕ) → 2 ≤ k → k < 4
-        → getD registers (l .value) 0 ≡ getD (l .value ∷ l .value ∷ getD registers (l .value) 0 ∷ getD registers (l .value) 0 ∷ []) k 0
-    by-kind zero b h = let z : ⊥ = omega arith in absurd z
-    by-kind (suc zero) b h = let z : ⊥ = omega arith in absurd z
-    by-kind (suc (suc zero)) b h = refl
-    by-kind (suc (suc (suc zero))) b h = refl
-    by-kind (suc (suc (suc (suc k)))) b h = let z : ⊥ = omega arith in absurd z
+module _ (registers : List ℕ) (l : Line) where
+  pub names-value : l .kind < 2 → l .value ≡ named-location registers l
+  unfolding named-location
+  names-value h = by-kind (l .kind) h
+    where
+      by-kind : (k : ℕ) → k < 2 → l .value ≡ named-by registers (l .value) k
+      by-kind zero h = refl
+      by-kind (suc zero) h = refl
+      by-kind (suc (suc k)) h = let z : ⊥ = omega arith in absurd z
 
-pub names-none : (registers : List ℕ) (l : Line) → 4 ≤ l .kind → 0 ≡ named-location registers l
-unfolding named-location
-names-none registers l h =
-    sym (List·getD-eq-default (l .value ∷ l .value ∷ getD registers (l .value) 0 ∷ getD registers (l .value) 0 ∷ []) 0 h)
+  pub names-register : 2 ≤ l .kind → l .kind < 4 → getD registers (l .value) 0 ≡ named-location registers l
+  unfolding named-location
+  names-register b h = by-kind (l .kind) b h
+    where
+      by-kind : (k : ℕ) → 2 ≤ k → k < 4 → getD registers (l .value) 0 ≡ named-by registers (l .value) k
+      by-kind zero b h = let z : ⊥ = omega arith in absurd z
+      by-kind (suc zero) b h = let z : ⊥ = omega arith in absurd z
+      by-kind (suc (suc zero)) b h = refl
+      by-kind (suc (suc (suc zero))) b h = refl
+      by-kind (suc (suc (suc (suc k)))) b h = let z : ⊥ = omega arith in absurd z
+
+  pub names-summed : l .kind ≡ 4 → l .value ≡ named-location registers l
+  unfolding named-location
+  names-summed e = ap (named-by registers (l .value)) (sym e)
+
+  pub names-summed-register : l .kind ≡ 5 → getD registers (l .value) 0 ≡ named-location registers l
+  unfolding named-location
+  names-summed-register e = ap (named-by registers (l .value)) (sym e)
+
+  pub names-none : 6 ≤ l .kind → 0 ≡ named-location registers l
+  unfolding named-location
+  names-none h =
+      sym (List·getD-eq-default
+      (l .value ∷ l .value ∷ getD registers (l .value) 0 ∷ getD registers (l .value) 0 ∷ l .value ∷ getD registers (l .value) 0 ∷ []) 0 h)
 
 -- the mode that each kind of line asks for
-pub kind-mode : (l : Line) (k : ℕ) → l .kind ≡ k → getD (1 ∷ 2 ∷ 1 ∷ 2 ∷ []) k 0 ≡ named-mode l
+pub kind-mode : (l : Line) (k : ℕ) → l .kind ≡ k → getD (1 ∷ 2 ∷ 1 ∷ 2 ∷ 3 ∷ 3 ∷ []) k 0 ≡ named-mode l
 unfolding named-mode
-kind-mode l k e = ap (λ m. getD (1 ∷ 2 ∷ 1 ∷ 2 ∷ []) m 0) (sym e)
+kind-mode l k e = ap (λ m. getD (1 ∷ 2 ∷ 1 ∷ 2 ∷ 3 ∷ 3 ∷ []) m 0) (sym e)
 
-pub kind-none : (l : Line) → l .kind ≢ 0 → l .kind ≢ 1 → l .kind ≢ 2 → l .kind ≢ 3 → 0 ≡ named-mode l
+pub kind-none : (l : Line) → 6 ≤ l .kind → 0 ≡ named-mode l
 unfolding named-mode
-kind-none l p q r s = by-kind (l .kind) p q r s
-  where
-    by-kind : (k : ℕ) → k ≢ 0 → k ≢ 1 → k ≢ 2 → k ≢ 3 → _≡_ {A = ℕ} 0 (getD (1 ∷ 2 ∷ 1 ∷ 2 ∷ []) k 0)
-    by-kind zero p q r s = absurd (p refl)
-    by-kind (suc zero) p q r s = absurd (q refl)
-    by-kind (suc (suc zero)) p q r s = absurd (r refl)
-    by-kind (suc (suc (suc zero))) p q r s = absurd (s refl)
-    by-kind (suc (suc (suc (suc k)))) p q r s = refl
+kind-none l h = sym (List·getD-eq-default (1 ∷ 2 ∷ 1 ∷ 2 ∷ 3 ∷ 3 ∷ []) 0 h)
 
 -- the mode of two lines, by whether the modes are there and are one
 pub merged-first : (e m : ℕ) → e ≡ 0 → m ≡ merged e m

@@ -13,10 +13,12 @@ use Rattle.grants.specs.declared.Granting.{Granting}
 -- the location and the mode of a line, as in the model's `targets`
 unfoldable pub named-location : List ℕ → Line → ℕ
 named-location registers l =
-    getD (l .value ∷ l .value ∷ getD registers (l .value) 0 ∷ getD registers (l .value) 0 ∷ []) (l .kind) 0
+    let fixed = l .value in
+    let named = getD registers (l .value) 0 in
+    getD (fixed ∷ fixed ∷ named ∷ named ∷ fixed ∷ named ∷ []) (l .kind) 0
 
 unfoldable pub named-mode : Line → ℕ
-named-mode l = getD (1 ∷ 2 ∷ 1 ∷ 2 ∷ []) (l .kind) 0
+named-mode l = getD (1 ∷ 2 ∷ 1 ∷ 2 ∷ 3 ∷ 3 ∷ []) (l .kind) 0
 
 -- a task of which only registers and modes matter (law `any-spawner`, proofs/GrantLaws.antt)
 abbrev pub spawner : List ℕ → List ℕ → Task

@@ -36,16 +36,25 @@ pub fn register_at(registers: [u32; 4], r: u8) -> u32
 pub fn access_fault(own: u8, asked: u8) -> u8
     ensures { λ r. ⌜ r ≡ access-fault own asked ⌝ }
 {
-    if 2 < asked {
+    if 3 < asked {
         return 1;
     }
     if own == 1 {
-        if asked == 2 {
+        if 1 < asked {
             return 2;
         }
         return 0;
     }
     if own == 2 {
+        return 0;
+    }
+    if own == 3 {
+        if asked == 1 {
+            return 2;
+        }
+        if asked == 2 {
+            return 2;
+        }
         return 0;
     }
     1
@@ -61,6 +70,12 @@ fn location_of(line: Line, registers: [u32; 4]) -> usize
         return wide(value);
     }
     if kind < 4 {
+        return widened(register_at(registers, value));
+    }
+    if kind < 5 {
+        return wide(value);
+    }
+    if kind < 6 {
         return widened(register_at(registers, value));
     }
     0
@@ -82,6 +97,12 @@ fn mode_of(line: Line) -> u8
     }
     if kind == 3 {
         return 2;
+    }
+    if kind == 4 {
+        return 3;
+    }
+    if kind == 5 {
+        return 3;
     }
     0
 }

@@ -1,2 +1,2 @@
--- Laws that the proofs of the functions cite.
-mod ValueLaws
+-- Laws of the definitions, for this crate's proofs and for the layer above.
+pub mod ValueLaws

@@ -8,7 +8,7 @@ use tasklist::Instruction;
 
 // The code of an instruction.
 pub fn code_of(instruction: Instruction) -> usize
-    ensures { λ r. ⌜ (r ≡ getD (instruction-fields instruction) 0 0) × (r < 10) ⌝ }
+    ensures { λ r. ⌜ (r ≡ getD (instruction-fields instruction) 0 0) × (r < 11) ⌝ }
 {
     match instruction {
         Instruction::Const {
@@ -49,6 +49,10 @@ pub fn code_of(instruction: Instruction) -> usize
             footprint: _,
             children: _,
         } => 9,
+        Instruction::Sum {
+            place: _,
+            source: _,
+        } => 10,
     }
 }
 
@@ -102,5 +106,9 @@ pub fn units_of(instruction: Instruction) -> u32
             footprint: _,
             children,
         } => wide(children),
+        Instruction::Sum {
+            place: _,
+            source: _,
+        } => 1, // whatever it adds
     }
 }

@@ -17,4 +17,5 @@ pub use values::difference;
 pub use values::less;
 pub use values::passed_over;
 pub use values::store;
+pub use values::sum;
 pub use values::value_at;

@@ -5,6 +5,8 @@ ghost use mathlib.Core.Bool.{cond};
 ghost use lib.ListN.{length, getD, set};
 ghost use lib.Dec.{ltb};
 ghost use Rattle.semantics.specs.Plan.{passed-over};
+ghost use Rattle.semantics.specs.Effect.{add};
+ghost use Rattle.semantics.specs.Call.{edited};
 
 // A constant as 32 bits.
 pub fn constant(value: u16) -> u32
@@ -52,4 +54,16 @@ pub fn store(memory: &mut [u32; 64], location: usize, value: u32)
         return;
     }
     memory[location] = value;
+}
+
+// Request 107: "entry number Ra := entry + Rb modulo 2^32". Adds a number to that at a location; leaves the memory where there is
+// no such location.
+pub fn sum(memory: &mut [u32; 64], location: usize, value: u32)
+    ensures { λ r. ⌜ (length (now (memory .entry)) ≡ 64 → now (memory .exit) ≡ edited (add location value) (now (memory .entry))) ⌝ }
+{
+    if 63 < location {
+        return;
+    }
+    let entry = memory[location];
+    memory[location] = std::num::wrapping_add_u32(entry, value);
 }

@@ -5,6 +5,8 @@ pub mod options;
 pub mod preview;
 pub mod shrink;
 
+use second::Instruction;
+
 /// How often each refusal was met, as `1 x 20, 2 x 7`.
 pub fn refusal_words(counts: &[u64]) -> String {
     let words: Vec<String> = counts
@@ -16,13 +18,24 @@ pub fn refusal_words(counts: &[u64]) -> String {
     words.join(", ")
 }
 
-/// The bytes are an accepted list in which a fan stands.
+/// The bytes are an accepted list in which such an instruction stands.
+fn has(bytes: &[u8], such: fn(&Instruction) -> bool) -> bool {
+    match second::decode(bytes) {
+        Ok(list) => list.bodies.iter().flatten().any(such),
+        Err(_) => false,
+    }
+}
+
 pub fn has_fan(bytes: &[u8]) -> bool {
-    let Ok(list) = second::decode(bytes) else {
-        return false;
-    };
-    let mut instructions = list.bodies.iter().flatten();
-    instructions.any(|instruction| matches!(instruction, second::Instruction::Fan { .. }))
+    has(bytes, |instruction| {
+        matches!(instruction, Instruction::Fan { .. })
+    })
+}
+
+pub fn has_sum(bytes: &[u8]) -> bool {
+    has(bytes, |instruction| {
+        matches!(instruction, Instruction::Sum { .. })
+    })
 }
 
 #[cfg(test)]

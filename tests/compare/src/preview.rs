@@ -6,12 +6,14 @@ use second::cases::EXAMPLE_P;
 use second::cases::{alterations, damaged_list, hex, library_bytes, list_case, random_library};
 use second::cases::{bad_table, fan_tree, random_list, random_table, table_bytes, too_many_tasks};
 use second::list::decode_records;
-use second::named::{deepest_list, fan_of_strengths, longest_list};
+use second::named::{
+    children_that_sum, deepest_list, fan_of_strengths, lines_of_each_mode, longest_list, sum_line,
+};
 use second::rng::Rng;
 use second::{encode, preview_check, preview_hand_run, TODAY};
 
 use crate::shrink::{less_entries, shrink, smaller_bytes, smaller_lists};
-use crate::{has_fan, refusal_words};
+use crate::{has_fan, has_sum, refusal_words};
 
 /// preview_check(list, list_len)
 pub type Check = unsafe extern "C" fn(*const u8, usize) -> u32;
@@ -231,20 +233,38 @@ fn one_fan(children: u8) -> Vec<u8> {
     bytes
 }
 
+/// A list of one line and one instruction, good or bad: of sums, or of the kinds and codes beyond them.
+fn one_line_and_instruction(line: [u8; 2], instruction: [u8; 4]) -> Vec<u8> {
+    let mut bytes = vec![0x4A, 0x48, 2, 1, 1, 0x4A, 0x46, 1];
+    bytes.extend(line);
+    bytes.extend([0x4A, 0x42, 1]);
+    bytes.extend(instruction);
+    bytes
+}
+
 /// Lists without end: some for each answer, empty ones among them, then P altered in every way, then
 /// some lists cut and altered at each place, the longest among them, then random ones, valid and
 /// damaged.
 pub fn lists(seed: u64) -> impl Iterator<Item = Lent> {
     let mut rng = Rng::new(seed);
     let mut lists = Vec::new();
-    for i in 0..260 {
-        lists.push(whole(match i % 13 {
-            0 => rng
-                .pick(&[&EXAMPLE_P[..], &deepest_list(), &fan_of_strengths()])
-                .to_vec(),
+    let named = [
+        EXAMPLE_P.to_vec(),
+        deepest_list(),
+        fan_of_strengths(),
+        children_that_sum(sum_line(0)),
+        lines_of_each_mode(),
+    ];
+    for i in 0..280 {
+        lists.push(whole(match i % 14 {
+            0 => named[rng.below(named.len())].clone(),
             refusal @ 1..=7 => damaged_list(&mut rng, refusal),
             8 => Vec::new(),
             9 => one_fan(rng.pick(&[0, 1, 16, 17, 255])),
+            10 => one_line_and_instruction(
+                rng.pick(&[[4, 1], [4, 2], [5, 3], [5, 4], [6, 0]]),
+                rng.pick(&[[10, 0, 0, 0], [10, 3, 3, 0], [10, 0, 4, 0], [11, 0, 0, 0]]),
+            ),
             _ => encode(&random_list(&mut rng)),
         }));
     }
@@ -253,6 +273,7 @@ pub fn lists(seed: u64) -> impl Iterator<Item = Lent> {
         deepest_list(),
         longest_list(),
         fan_of_strengths(),
+        children_that_sum(sum_line(0)),
         encode(&fan_tree(15)),
         encode(&too_many_tasks(&mut rng)),
     ];
@@ -395,8 +416,9 @@ pub struct Met {
     pub lists: usize,
     /// Lists of no bytes that the hand run accepts.
     pub empty: u64,
-    /// Lists with a fan that the hand run accepts.
+    /// Lists with a fan, and such with a sum, that the hand run accepts.
     pub fans: u64,
+    pub sums: u64,
     /// Hand runs accepted with another table than today's numbers.
     pub own_tables: u64,
     pub check: [u64; REFUSALS],
@@ -411,6 +433,7 @@ impl Met {
         self.lists += 1;
         self.empty += (case.list.bytes.is_empty() && answers.hand_run == 0) as u64;
         self.fans += (answers.hand_run == 0 && has_fan(&case.list.bytes)) as u64;
+        self.sums += (answers.hand_run == 0 && has_sum(&case.list.bytes)) as u64;
         let own_table = case.table.bytes != table_bytes(&TODAY);
         self.own_tables += (answers.hand_run == 0 && own_table) as u64;
         self.check[answers.check.saturating_sub(128) as usize] += 1;
@@ -431,12 +454,13 @@ impl Met {
     pub fn words(&self) -> String {
         format!(
             "check accepts {}, refuses {}; the hand run accepts {} ({} of no bytes, {} with fans, {} \
-             with other weights than today's), refuses {}",
+             with sums, {} with other weights than today's), refuses {}",
             self.check[0],
             refusal_words_of(&self.check),
             self.hand_run[0],
             self.empty,
             self.fans,
+            self.sums,
             self.own_tables,
             refusal_words_of(&self.hand_run)
         )
@@ -643,7 +667,7 @@ mod tests {
             result,
             result_len,
         );
-        if answer == 136 && table_len != 24 {
+        if answer == 136 && table_len != 26 {
             return 149;
         }
         answer
@@ -687,6 +711,92 @@ mod tests {
             }
         }
         preview_check(&bytes)
+    }
+
+    unsafe extern "C" fn check_refuses_sums(list: *const u8, list_len: usize) -> u32 {
+        if has_sum(slice(list, list_len)) {
+            return 133;
+        }
+        check(list, list_len)
+    }
+
+    unsafe extern "C" fn check_refuses_lines_that_sum(list: *const u8, list_len: usize) -> u32 {
+        match second::decode(slice(list, list_len)) {
+            Ok(list) if list.footprints.iter().flatten().any(|line| line.kind > 3) => 132,
+            _ => check(list, list_len),
+        }
+    }
+
+    /// A bad register of a sum is taken for R3.
+    unsafe extern "C" fn check_accepts_bad_sums(list: *const u8, list_len: usize) -> u32 {
+        let mut bytes = slice(list, list_len).to_vec();
+        for place in 2..bytes.len() {
+            if bytes[place] == 4 && bytes[place - 2] == 10 {
+                bytes[place] = 3;
+            }
+        }
+        preview_check(&bytes)
+    }
+
+    /// A sum stores: what code 10 does is what code 5 would do.
+    unsafe extern "C" fn sums_store(
+        list: *const u8,
+        list_len: usize,
+        library: *const u8,
+        library_len: usize,
+        table: *const u8,
+        table_len: usize,
+        result: *mut u8,
+        result_len: usize,
+    ) -> u32 {
+        let mut bytes = slice(list, list_len).to_vec();
+        if let Ok(mut list) = second::decode(&bytes) {
+            for instruction in list.bodies.iter_mut().flatten() {
+                if let second::Instruction::Sum { a, b } = *instruction {
+                    *instruction = second::Instruction::Store { a, b };
+                }
+            }
+            if list_len > 0 {
+                bytes = encode(&list);
+            }
+        }
+        hand_run(
+            bytes.as_ptr(),
+            list_len,
+            library,
+            library_len,
+            table,
+            table_len,
+            result,
+            result_len,
+        )
+    }
+
+    /// A table of 12 numbers is taken, with today's number for the sum.
+    unsafe extern "C" fn takes_12_numbers(
+        list: *const u8,
+        list_len: usize,
+        library: *const u8,
+        library_len: usize,
+        table: *const u8,
+        table_len: usize,
+        result: *mut u8,
+        result_len: usize,
+    ) -> u32 {
+        let mut numbers = slice(table, table_len).to_vec();
+        if table_len == 24 {
+            numbers.extend([4, 0]);
+        }
+        hand_run(
+            list,
+            list_len,
+            library,
+            library_len,
+            numbers.as_ptr(),
+            numbers.len(),
+            result,
+            result_len,
+        )
     }
 
     unsafe extern "C" fn check_writes(list: *const u8, list_len: usize) -> u32 {
@@ -794,7 +904,7 @@ mod tests {
                                    _result,
                                    _length,
                                    answer| {
-        if answer == 0 && *table.add(22) == 0xE8 && *table.add(23) == 3 {
+        if answer == 0 && *table.add(24) == 0xE8 && *table.add(25) == 3 {
             150
         } else {
             answer
@@ -802,7 +912,7 @@ mod tests {
     });
     /// Tests all numbers but the last.
     unsafe fn first_numbers_are_good(table: *const u8) -> bool {
-        let mut numbers = slice(table, 22).chunks(2);
+        let mut numbers = slice(table, 24).chunks(2);
         numbers.all(|bytes| (1..=1000).contains(&u16::from_le_bytes([bytes[0], bytes[1]])))
     }
     wrong_hand_run!(
@@ -841,6 +951,7 @@ mod tests {
         assert!(met.check[0] > 100 && met.hand_run[0] > 100 && met.empty > 5);
         assert!(met.hand_run[21] > 30 && met.hand_run[22] > 30);
         assert!(met.fans > 20 && met.own_tables > 40, "{}", met.words());
+        assert!(met.sums > 20, "{}", met.words());
     }
 
     #[test]
@@ -855,6 +966,23 @@ mod tests {
                 with_check(check_accepts_17_children),
                 18,
                 "second: check 133, ",
+            ),
+            (with_check(check_refuses_sums), 12, "preview: check 133, "),
+            (
+                with_check(check_refuses_lines_that_sum),
+                13,
+                "preview: check 132, ",
+            ),
+            (
+                with_check(check_accepts_bad_sums),
+                20,
+                "second: check 133, ",
+            ),
+            (with_hand_run(sums_store), 24, "hand run 0, result "),
+            (
+                with_hand_run(takes_12_numbers),
+                8,
+                "second: check 1, hand run 149",
             ),
             (with_check(check_writes), 31, "spoiled: list of check"),
             (
@@ -875,7 +1003,7 @@ mod tests {
             (
                 with_hand_run(refuses_1000),
                 8,
-                "table 05000200010001000100010003000400010008000100e803",
+                "table 050002000100010001000100030004000100080001000800e803",
             ),
             (
                 with_hand_run(no_22_in_the_last),

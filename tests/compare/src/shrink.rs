@@ -82,7 +82,7 @@ pub fn less_entries(bytes: &[u8]) -> Option<Vec<u8>> {
 const NOTHING: Instruction = Instruction::Const { a: 0, value: 0 };
 
 /// The list without a sheet, a footprint, an instruction or a line, or with a simpler instruction: a fan of
-/// fewer children or a spawn, or nothing.
+/// fewer children or a spawn, a store for a sum, or nothing.
 fn smaller_records(list: &TaskList) -> Vec<TaskList> {
     let mut smaller = Vec::new();
     for s in 1..list.bodies.len() {
@@ -132,6 +132,9 @@ fn simpler_instructions(instruction: Instruction) -> Vec<Instruction> {
             footprint,
             children,
         }));
+    }
+    if let Instruction::Sum { a, b } = instruction {
+        simpler.push(Instruction::Store { a, b });
     }
     simpler
 }

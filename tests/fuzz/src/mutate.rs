@@ -1,8 +1,8 @@
 //! Changes that know what a list and its calls are, so that most lists stay accepted, beside the fuzzer's own. The fuzzer makes
 //! up to five changes on end, so that its own must be the fewer.
 
-use second::cases::{bad_table, library_bytes, list_case, next_call, random_library, random_list};
-use second::cases::{random_table, table_bytes, STRATEGIES};
+use second::cases::{bad_table, library_bytes, list_case, names_entry, next_call, random_library};
+use second::cases::{random_list, random_table, table_bytes, STRATEGIES};
 use second::coordinator::{call, open_files};
 use second::list::{decode_records, task_count, Instruction, Line, TaskList};
 use second::rng::Rng;
@@ -71,7 +71,7 @@ fn change_table(rng: &mut Rng, parts: &mut Parts) {
         1 => table_bytes(&bad_table(rng)),
         2 => {
             let mut table = table_bytes(&random_table(rng));
-            table.resize(rng.pick(&[0, 1, 2, 22, 23, 25, 26, 30, 32]), 1);
+            table.resize(rng.pick(&[0, 1, 2, 24, 25, 27, 28, 30, 32]), 1);
             table
         }
         3 | 4 => table_bytes(&TODAY),
@@ -188,18 +188,19 @@ fn change(rng: &mut Rng, list: &mut TaskList) {
 }
 
 fn any_line(rng: &mut Rng, locations: usize) -> Line {
-    let kind = rng.pick(&[0, 0, 0, 1, 1, 1, 2, 3]);
-    let most = if kind < 2 { locations } else { 4 };
-    Line {
-        kind,
-        value: rng.below(most) as u8,
-    }
+    let mut line = Line {
+        kind: rng.pick(&[0, 0, 0, 1, 1, 1, 4, 4, 4, 2, 3, 5]),
+        value: 0,
+    };
+    let most = if names_entry(&line) { locations } else { 4 };
+    line.value = rng.below(most) as u8;
+    line
 }
 
 /// An instruction of any form; a constant is mostly an entry's number.
 fn any_instruction(rng: &mut Rng, list: &TaskList, s: usize) -> Instruction {
     let (a, b, c) = (rng.below(4) as u8, rng.below(4) as u8, rng.below(4) as u8);
-    match rng.below(13) {
+    match rng.below(15) {
         0 | 1 => {
             let value = match rng.below(8) {
                 0 => rng.below(65_536),
@@ -229,6 +230,7 @@ fn any_instruction(rng: &mut Rng, list: &TaskList, s: usize) -> Instruction {
             footprint: rng.below(list.footprints.len()) as u8,
             children: rng.pick(&[1, 2, 3, 16, rng.clone().between(1, 16) as u8, 0, 17]),
         },
+        12 | 13 => Instruction::Sum { a, b },
         _ => Instruction::Wait { a },
     }
 }
@@ -239,7 +241,7 @@ fn repair(rng: &mut Rng, list: &mut TaskList) {
         return;
     }
     for line in list.footprints.iter_mut().flatten() {
-        if line.kind < 2 {
+        if names_entry(line) {
             line.value %= list.locations as u8;
         }
     }

@@ -6,8 +6,8 @@ use crate::list::{
     TaskList, COUNT_CAP,
 };
 use crate::rng::Rng;
-use crate::run::{at_its_end, test_end, test_start, test_step, Run};
-use crate::run::{NONE, READ, TODAY, WAITING, WEIGHTS, WRITE};
+use crate::run::{at_its_end, line_mode, test_end, test_start, test_step, Run};
+use crate::run::{NONE, READ, SUM, TODAY, WAITING, WEIGHTS, WRITE};
 
 /// P of "Publishing examples", byte by byte.
 pub const EXAMPLE_P: [u8; 54] = [
@@ -36,6 +36,8 @@ pub struct Shape {
     /// How often an instruction is a spawn or a fan, and how often it is then a fan.
     pub spawn_percent: usize,
     pub fan_percent: usize,
+    /// How often a line sums (#107).
+    pub sum_percent: usize,
     /// How often fields are chosen so that the step should not fault.
     pub tame_percent: usize,
     /// The largest count(0), and the largest count of the other bodies.
@@ -56,12 +58,13 @@ pub fn random_shape(rng: &mut Rng) -> Shape {
         full: false,
         spawn_percent: 40,
         fan_percent: rng.pick(&[0, 20, 40, 80]),
+        sum_percent: rng.pick(&[0, 20, 40, 70]),
         tame_percent: 98,
         root_limit: 128,
         other_limit: 30,
         fill: false,
     };
-    match rng.below(13) {
+    match rng.below(15) {
         0 | 1 => Shape {
             locations: rng.between(1, 3),
             footprints: rng.between(1, 4),
@@ -95,7 +98,7 @@ pub fn random_shape(rng: &mut Rng) -> Shape {
             other_limit: rng.pick(&[6, 20, COUNT_CAP]),
             ..medium
         },
-        // One entry, many readers and writers.
+        // One entry, many readers, writers and sums.
         6 => Shape {
             locations: 1,
             lines: 1,
@@ -105,6 +108,15 @@ pub fn random_shape(rng: &mut Rng) -> Shape {
         7 => Shape {
             locations: 64,
             lines: 8,
+            ..medium
+        },
+        // Totals: few entries that most jobs sum, by fans too.
+        13 | 14 => Shape {
+            locations: rng.between(1, 3),
+            lines: rng.between(1, 3),
+            spawn_percent: 50,
+            fan_percent: rng.pick(&[20, 60]),
+            sum_percent: rng.pick(&[70, 90, 100]),
             ..medium
         },
         // Bodies that are mostly empty.
@@ -173,6 +185,36 @@ pub fn list_of_shape(rng: &mut Rng, shape: &Shape) -> TaskList {
     list
 }
 
+/// The line names the entry itself, not by a register.
+pub fn names_entry(line: &Line) -> bool {
+    matches!(line.kind, 0 | 1 | 4)
+}
+
+/// A line of this mode, by a register or not.
+fn line_of(mode: u8, by_register: bool, value: u8) -> Line {
+    let kind = match (mode, by_register) {
+        (SUM, false) => 4,
+        (SUM, true) => 5,
+        (_, false) => mode - READ,
+        (_, true) => mode - READ + 2,
+    };
+    Line { kind, value }
+}
+
+/// A job of this mode at an entry may give its child that one there without a fault.
+fn allows(own: u8, wanted: u8) -> bool {
+    own == WRITE || own != NONE && own == wanted
+}
+
+/// The mode of a line: mostly or rarely sum, else read or write.
+fn random_mode(rng: &mut Rng, shape: &Shape) -> u8 {
+    if rng.percent(shape.sum_percent) {
+        SUM
+    } else {
+        rng.pick(&[READ, WRITE])
+    }
+}
+
 /// Lines drawn at random, or a weaker copy of an earlier footprint, or mostly distinct entries.
 fn random_footprint(rng: &mut Rng, shape: &Shape, earlier: &[Vec<Line>]) -> Vec<Line> {
     let count = if shape.full {
@@ -183,25 +225,26 @@ fn random_footprint(rng: &mut Rng, shape: &Shape, earlier: &[Vec<Line>]) -> Vec<
     let mut footprint = Vec::new();
     if !rng.percent(shape.tame_percent) {
         for _ in 0..count {
-            let kind = rng.below(4) as u8;
-            let most = if kind < 2 { shape.locations } else { 4 };
-            footprint.push(Line {
-                kind,
-                value: rng.below(most) as u8,
-            });
+            let by_register = rng.percent(50);
+            let most = if by_register { 4 } else { shape.locations };
+            let mode = rng.pick(&[READ, WRITE, SUM]);
+            footprint.push(line_of(mode, by_register, rng.below(most) as u8));
         }
         return footprint;
     }
     if !earlier.is_empty() && !shape.full && rng.percent(50) {
         for line in &earlier[rng.below(earlier.len())] {
             if rng.percent(80) {
-                // Kinds 1 and 3 write, 0 and 2 read the same.
-                let weaker = line.kind % 2 == 1 && rng.percent(50);
-                let kind = if weaker { line.kind - 1 } else { line.kind };
-                footprint.push(Line {
-                    kind,
-                    value: line.value,
-                });
+                // Write may become read or sum.
+                let mut mode = line_mode(line);
+                if mode == WRITE && rng.percent(50) {
+                    mode = if rng.percent(shape.sum_percent) {
+                        SUM
+                    } else {
+                        READ
+                    };
+                }
+                footprint.push(line_of(mode, !names_entry(line), line.value));
             }
         }
         return footprint;
@@ -215,20 +258,14 @@ fn random_footprint(rng: &mut Rng, shape: &Shape, earlier: &[Vec<Line>]) -> Vec<
         registers.sort_by_key(|register| *register == 0);
     }
     for i in 0..count {
-        let writes = rng.below(2) as u8;
+        let mode = random_mode(rng, shape);
         if rng.percent(15) && !registers.is_empty() {
-            footprint.push(Line {
-                kind: 2 + writes,
-                value: registers.pop().unwrap(),
-            });
+            footprint.push(line_of(mode, true, registers.pop().unwrap()));
         } else {
             // #106: rarely the entry of an earlier line.
             let place = if rng.percent(10) { rng.below(i + 1) } else { i };
             let location = locations[place % locations.len()];
-            footprint.push(Line {
-                kind: writes,
-                value: location as u8,
-            });
+            footprint.push(line_of(mode, false, location as u8));
         }
     }
     footprint
@@ -266,11 +303,13 @@ fn likely_modes(list: &TaskList, homes: &[Option<usize>], s: usize) -> Vec<u8> {
     }
     let mut modes = vec![NONE; list.locations];
     if let Some(f) = homes[s] {
-        for line in &list.footprints[f] {
-            if line.kind < 2 {
-                let mode = &mut modes[line.value as usize];
-                *mode = (*mode).max(line.kind + 1);
-            }
+        for line in list.footprints[f].iter().filter(|line| names_entry(line)) {
+            let mode = &mut modes[line.value as usize];
+            *mode = match *mode {
+                NONE => line_mode(line),
+                same if same == line_mode(line) => same,
+                _ => WRITE,
+            };
         }
     }
     modes
@@ -279,11 +318,11 @@ fn likely_modes(list: &TaskList, homes: &[Option<usize>], s: usize) -> Vec<u8> {
 /// Whether a spawner with these modes likely spawns with this footprint without a fault.
 fn footprint_fits(footprint: &[Line], own: &[u8]) -> bool {
     footprint.iter().all(|line| {
-        let needed = if line.kind % 2 == 0 { READ } else { WRITE };
-        if line.kind < 2 {
-            own[line.value as usize] >= needed
+        let wanted = line_mode(line);
+        if names_entry(line) {
+            allows(own[line.value as usize], wanted)
         } else {
-            own.iter().any(|mode| *mode >= needed)
+            own.iter().any(|mode| allows(*mode, wanted))
         }
     })
 }
@@ -415,7 +454,7 @@ fn spawn_group(rng: &mut Rng, draft: &Draft, room: u64) -> Vec<Instruction> {
         let apart = rng.percent(70);
         let mut used = Vec::new();
         for line in &list.footprints[footprint] {
-            if apart && line.kind < 2 {
+            if apart && names_entry(line) {
                 used.push(line.value as usize);
             }
             if apart && by_child(line) {
@@ -423,10 +462,11 @@ fn spawn_group(rng: &mut Rng, draft: &Draft, room: u64) -> Vec<Instruction> {
             }
         }
         for line in &list.footprints[footprint] {
-            if line.kind >= 2 && !(by_child(line) && children.is_some()) {
-                let needed = line.kind - 1;
+            if !names_entry(line) && !(by_child(line) && children.is_some()) {
+                let wanted = line_mode(line);
+                let good = |location: &usize| allows(draft.own[*location], wanted);
                 let free: Vec<usize> = (0..list.locations)
-                    .filter(|location| draft.own[*location] >= needed && !used.contains(location))
+                    .filter(|location| good(location) && !used.contains(location))
                     .collect();
                 if !free.is_empty() {
                     let location = rng.pick(&free);
@@ -455,7 +495,7 @@ fn spawn_group(rng: &mut Rng, draft: &Draft, room: u64) -> Vec<Instruction> {
 
 /// The line names the entry by R0, which parts the children of a fan.
 fn by_child(line: &Line) -> bool {
-    line.kind >= 2 && line.value == 0
+    !names_entry(line) && line.value == 0
 }
 
 /// How many children a fan with this footprint has, at most `room`: few, or the most; where it is tame,
@@ -470,7 +510,8 @@ fn draw_children(
     let lines = &draft.list.footprints[footprint];
     let mut most = room.min(16) as usize;
     for line in lines.iter().filter(|line| tame && by_child(line)) {
-        let good = |i: usize| i < draft.list.locations && draft.own[i] >= line.kind - 1;
+        let wanted = line_mode(line);
+        let good = |i: usize| i < draft.list.locations && allows(draft.own[i], wanted);
         most = (0..most).take_while(|i| good(*i)).count();
     }
     if most == 0 {
@@ -484,13 +525,15 @@ fn draw_children(
     })
 }
 
-/// Any instruction but a spawn; a load, store or wait mostly behind the constant for its entry.
+/// Any instruction but a spawn; a load, store, wait or sum mostly behind the constant for its entry.
 fn other_group(rng: &mut Rng, draft: &Draft) -> Vec<Instruction> {
     let shape = draft.shape;
     let a = rng.below(4) as u8;
     let b = rng.below(4) as u8;
     let c = rng.below(4) as u8;
-    match rng.below(12) {
+    // A job with an entry that it sums mostly does so.
+    let sums = draft.own.contains(&SUM) && rng.percent(50);
+    match if sums { 12 } else { rng.below(13) } {
         0 => {
             let value = match rng.below(10) {
                 0 => rng.below(65536),
@@ -508,15 +551,16 @@ fn other_group(rng: &mut Rng, draft: &Draft) -> Vec<Instruction> {
         3 => vec![Instruction::Less { a, b, c }],
         4 => vec![Instruction::Skip { a, b: 0 }],
         kind => {
-            let needed = if (8..=10).contains(&kind) {
-                WRITE
-            } else {
-                READ
+            let good = |own: u8| match kind {
+                5..=7 => allows(own, READ),
+                8..=10 => allows(own, WRITE),
+                11 => own != NONE,
+                _ => allows(own, SUM),
             };
             let mut group = Vec::new();
             let mut register = rng.below(4) as u8;
             if rng.percent(shape.tame_percent) {
-                match prepare_location(rng, draft, needed, &mut group) {
+                match prepare_location(rng, draft, good, &mut group) {
                     Some(prepared) => register = prepared,
                     None => return vec![Instruction::Const { a, value: b as u16 }],
                 }
@@ -524,25 +568,26 @@ fn other_group(rng: &mut Rng, draft: &Draft) -> Vec<Instruction> {
             group.push(match kind {
                 5..=7 => Instruction::Load { a, b: register },
                 8..=10 => Instruction::Store { a: register, b },
-                _ => Instruction::Wait { a: register },
+                11 => Instruction::Wait { a: register },
+                _ => Instruction::Sum { a: register, b },
             });
             group
         }
     }
 }
 
-/// A register that should hold an entry which the job may use in this mode: one that a register line
-/// of its footprint used, or one that a constant sets now; none when it has no such entry.
+/// A register that should hold an entry where the job's mode is good: one that a register line of its
+/// footprint used, or one that a constant sets now; none when it has no such entry.
 fn prepare_location(
     rng: &mut Rng,
     draft: &Draft,
-    needed: u8,
+    good: impl Fn(u8) -> bool,
     group: &mut Vec<Instruction>,
 ) -> Option<u8> {
     let mut inherited = Vec::new();
     if let Some(f) = draft.homes[draft.s] {
         for line in &draft.list.footprints[f] {
-            if line.kind >= 2 && line.kind > needed {
+            if !names_entry(line) && good(line_mode(line)) {
                 inherited.push(line.value);
             }
         }
@@ -551,7 +596,7 @@ fn prepare_location(
         return Some(rng.pick(&inherited));
     }
     let fitting: Vec<usize> = (0..draft.list.locations)
-        .filter(|e| draft.own[*e] >= needed)
+        .filter(|e| good(draft.own[*e]))
         .collect();
     if fitting.is_empty() {
         return None;
@@ -681,7 +726,7 @@ fn altered_at(rng: &mut Rng, bytes: &[u8], place: usize) -> Vec<u8> {
         altered[place] = match rng.below(4) {
             0 => bytes[place].wrapping_add(1),
             1 => bytes[place].wrapping_sub(1),
-            2 => rng.below(10) as u8,
+            2 => rng.below(12) as u8,
             _ => rng.byte(),
         };
     }
@@ -787,11 +832,11 @@ fn damaged_field(rng: &mut Rng, list: &TaskList, refusal: u32) -> Option<Vec<u8>
         }
         Field::LineCount => bytes[offset] = byte_from(rng, 9),
         Field::Line => {
-            let kind = rng.below(5) as u8;
+            let kind = rng.below(7) as u8;
             let (kind, value) = match kind {
-                0 | 1 => (kind, byte_from(rng, list.locations)),
-                2 | 3 => (kind, byte_from(rng, 4)),
-                _ => (byte_from(rng, 4), 0),
+                0 | 1 | 4 => (kind, byte_from(rng, list.locations)),
+                2 | 3 | 5 => (kind, byte_from(rng, 4)),
+                _ => (byte_from(rng, 6), 0),
             };
             bytes[offset] = kind;
             bytes[offset + 1] = value;
@@ -831,7 +876,7 @@ fn bad_instruction(rng: &mut Rng, list: &TaskList, body: usize, pc: usize) -> [u
     let (code, children) = rng.pick(&[(7, 0), (9, 1), (9, 16)]);
     match rng.below(7) {
         // Another code.
-        0 => [byte_from(rng, 10), registers[0], 0, 0],
+        0 => [byte_from(rng, 11), registers[0], 0, 0],
         // A register above 3.
         1 => {
             let (code, listed) = rng.pick(&[
@@ -843,6 +888,7 @@ fn bad_instruction(rng: &mut Rng, list: &TaskList, body: usize, pc: usize) -> [u
                 (5, 2),
                 (6, 1),
                 (8, 1),
+                (10, 2),
             ]);
             let mut bad = [code, 0, 0, 0];
             for i in 0..listed {
@@ -856,7 +902,8 @@ fn bad_instruction(rng: &mut Rng, list: &TaskList, body: usize, pc: usize) -> [u
             Instruction::Load { .. }
             | Instruction::Store { .. }
             | Instruction::Skip { .. }
-            | Instruction::Spawn { .. } => {
+            | Instruction::Spawn { .. }
+            | Instruction::Sum { .. } => {
                 let mut bad = encode_instruction(&list.bodies[body][pc]);
                 bad[3] = byte_from(rng, 1);
                 bad
@@ -926,7 +973,7 @@ pub fn list_case(rng: &mut Rng) -> Vec<u8> {
             let count = rng.below(4) as u8;
             bytes.push(count);
             for _ in 0..rng.below(20) {
-                bytes.push(rng.below(11) as u8);
+                bytes.push(rng.below(12) as u8);
             }
             bytes
         }

@@ -40,7 +40,8 @@ pub struct Line {
     pub value: u8,
 }
 
-/// "An instruction is one of nine forms, each with its own fields"; #104: "New code 9, fan"
+/// "An instruction is one of nine forms, each with its own fields"; #104: "New code 9, fan"; #107: "New
+/// code 10".
 #[derive(Clone, Copy, Debug, PartialEq, Eq)]
 pub enum Instruction {
     /// "0 const: Ra := b + 256 × c"
@@ -67,6 +68,8 @@ pub enum Instruction {
         footprint: u8,
         children: u8,
     },
+    /// #107: "New code 10: entry number Ra := entry + Rb modulo 2^32"
+    Sum { a: u8, b: u8 },
 }
 
 /// The bytes of a list and how many of them are taken.
@@ -185,11 +188,12 @@ fn take_footprint(reader: &mut Reader, locations: usize) -> Result<Vec<Line>, u3
 }
 
 /// "Kind 0 reads and 1 writes entry `value`; 2 reads and 3 writes the entry whose number is in
-/// register `value`. Entry below C, register 0 to 3."
+/// register `value`. Entry below C, register 0 to 3." #107: "line kind 4 sums a fixed entry, 5 one named
+/// by a register".
 fn line_is_good(line: &Line, locations: usize) -> bool {
     match line.kind {
-        0 | 1 => (line.value as usize) < locations,
-        2 | 3 => line.value <= 3,
+        0 | 1 | 4 => (line.value as usize) < locations,
+        2 | 3 | 5 => line.value <= 3,
         _ => false,
     }
 }
@@ -245,6 +249,7 @@ fn decode_instruction(field: [u8; 4]) -> Option<Instruction> {
             footprint: b,
             children: c,
         }),
+        10 if register(a) && register(b) && c == 0 => Some(Instruction::Sum { a, b }),
         _ => None,
     }
 }
@@ -350,6 +355,7 @@ pub fn encode_instruction(instruction: &Instruction) -> [u8; 4] {
             footprint,
             children,
         } => [9, body, footprint, children],
+        Instruction::Sum { a, b } => [10, a, b, 0],
     }
 }
 

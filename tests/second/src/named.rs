@@ -41,9 +41,18 @@ pub fn write_line(value: u8) -> Line {
     Line { kind: 1, value }
 }
 
+pub fn sum_line(value: u8) -> Line {
+    Line { kind: 4, value }
+}
+
+pub fn sum(a: u8, b: u8) -> Instruction {
+    Instruction::Sum { a, b }
+}
+
 /// Lines by R0, which is a fan's child's number.
 pub const READ_BY_CHILD: Line = Line { kind: 2, value: 0 };
 pub const WRITE_BY_CHILD: Line = Line { kind: 3, value: 0 };
+pub const SUM_BY_CHILD: Line = Line { kind: 5, value: 0 };
 
 /// The bytes of a list with these parts.
 pub fn list(locations: usize, footprints: &[&[Line]], bodies: &[&[Instruction]]) -> Vec<u8> {
@@ -101,6 +110,7 @@ pub fn named_cases() -> Vec<Case> {
     cases.extend(large_numbers());
     cases.extend(trees());
     cases.extend(fans());
+    cases.extend(sums());
     cases.extend(refused_lists());
     cases
 }
@@ -800,6 +810,288 @@ fn fans_of_fans(next: bool) -> Vec<u8> {
     })
 }
 
+/// #107
+fn sums() -> Vec<Case> {
+    let mut cases = Vec::new();
+    // Two jobs add to one entry in either order, and one within the other; job 0 waits for both.
+    let two = two_that_sum(Instruction::Wait { a: 0 });
+    for text in [
+        "start 0, step 0, step 0, step 0, step 0, start 2, start 1",
+        "start 0, step 0, step 0, step 0, step 0, start 1, step 1, end 1, start 2, step 2, end 2, step 0, \
+         step 0, end 0",
+        "start 0, step 0, step 0, step 0, step 0, start 2, step 2, step 0, start 1, end 2, step 0, step 1, \
+         step 0, end 1, step 0, step 0, end 0",
+        "start 0, step 0, step 0, step 0, step 0, start 1, start 2, step 2, step 1, end 2, step 0, end 1, \
+         step 0, step 0, end 0",
+    ] {
+        cases.push(case(&two, &[5], text));
+    }
+    cases.push(whole(&two, &[5]));
+    // A writer behind sums: load, store and sum are held back as its wait is.
+    for instruction in [
+        Instruction::Load { a: 2, b: 0 },
+        Instruction::Store { a: 0, b: 1 },
+        sum(0, 1),
+    ] {
+        cases.push(case(
+            &two_that_sum(instruction),
+            &[5],
+            "start 0, step 0, step 0, step 0, step 0, step 0, start 2, step 0, step 2, end 2, step 0, start 1, \
+             step 1, step 0, end 1, step 0, step 0, end 0",
+        ));
+    }
+    // Modulo 2^32, with two addends and with the entry's own number.
+    for entry in [u32::MAX, u32::MAX - 2, 0x8000_0000] {
+        cases.push(whole(&sums_that_wrap(), &[entry, u32::MAX]));
+    }
+    cases.extend(sums_beside_other_modes());
+    cases.extend(sums_of_children());
+    cases.extend(faults_of_sums());
+    cases
+}
+
+/// #107: jobs 1 and 2 sum entry 0, one adding 3 and the other 40; then job 0 does this with R0 = 0 and
+/// R1 = 40, and loads the entry.
+pub fn two_that_sum(instruction: Instruction) -> Vec<u8> {
+    list(
+        1,
+        &[&[sum_line(0)]],
+        &[
+            &[
+                constant(1, 3),
+                spawn(1, 0),
+                constant(1, 40),
+                spawn(1, 0),
+                instruction,
+                Instruction::Load { a: 3, b: 0 },
+            ],
+            &[sum(0, 1)],
+        ],
+    )
+}
+
+/// #107: job 0 adds 3 to entry 0, entry 1 to it, and 1 to entry 1 by one register.
+pub fn sums_that_wrap() -> Vec<u8> {
+    list(
+        2,
+        &[],
+        &[&[
+            constant(1, 3),
+            sum(0, 1),
+            constant(2, 1),
+            Instruction::Load { a: 3, b: 2 },
+            sum(0, 3),
+            sum(2, 2),
+            Instruction::Load { a: 3, b: 2 },
+        ]],
+    )
+}
+
+/// #107: jobs 1, 2 and 3 have entry 0 in these modes, in this order.
+pub fn three_modes(kinds: [u8; 3]) -> Vec<u8> {
+    let line = |kind| [Line { kind, value: 0 }];
+    list(
+        1,
+        &[&line(kinds[0]), &line(kinds[1]), &line(kinds[2])],
+        &[&[spawn(1, 0), spawn(1, 1), spawn(1, 2)], &[]],
+    )
+}
+
+/// Starts behind jobs of each mode: a sum is held by a reader and by a writer, and holds both. The search
+/// goes past sums: 19 where a writer stands behind them.
+fn sums_beside_other_modes() -> Vec<Case> {
+    let mut cases = Vec::new();
+    for kinds in [
+        [4, 4, 4],
+        [4, 4, 0],
+        [4, 0, 4],
+        [0, 4, 0],
+        [4, 1, 4],
+        [1, 4, 4],
+        [4, 4, 1],
+    ] {
+        let begun = "start 0, step 0, step 0, step 0, start 3, start 2, start 1, end 0";
+        let ended = "start 2, start 3, end 1, start 3, start 2, end 2, start 3, end 3";
+        for text in [begun, &format!("{begun}, {ended}")] {
+            cases.push(case(&three_modes(kinds), &[5], text));
+        }
+    }
+    // A sum on one entry and another mode on a second: all entries of the footprint count.
+    let bytes = list(
+        2,
+        &[
+            &[sum_line(0), read_line(1)],
+            &[sum_line(0), write_line(1)],
+            &[sum_line(0), sum_line(1)],
+            &[sum_line(0)],
+        ],
+        &[
+            &[spawn(1, 0), spawn(1, 1), spawn(1, 2), spawn(1, 3)],
+            &[Instruction::Wait { a: 0 }, sum(0, 1)],
+        ],
+    );
+    cases.push(case(
+        &bytes,
+        &LIBRARY_P,
+        "start 0, step 0, step 0, step 0, step 0, start 4, step 4, step 4, start 3, start 2, start 1, end 4, step 1, \
+         step 1, end 1, start 3, start 2, step 2, start 3, step 2, end 2, start 3, step 3, step 3, end 3, end 0",
+    ));
+    cases
+}
+
+/// A job of mode sum and one of mode write, each with children that sum, by spawns and by fans.
+fn sums_of_children() -> Vec<Case> {
+    let mut cases = Vec::new();
+    for kind in [4, 1] {
+        let bytes = children_that_sum(Line { kind, value: 0 });
+        cases.push(case(
+            &bytes,
+            &LIBRARY_P,
+            "start 0, step 0, start 1, step 1, step 1, step 1, step 1, start 4, step 4, step 4, end 4, start 2, \
+             step 1, step 2, step 2, start 3, end 2, step 3, step 3, end 3, step 1, step 1, end 1, end 0",
+        ));
+        cases.push(whole(&bytes, &LIBRARY_P));
+    }
+    // Child i sums entry i, and all sum entry 2; the last first.
+    let bytes = list(
+        3,
+        &[&[SUM_BY_CHILD, sum_line(2)]],
+        &[
+            &[constant(1, 2), constant(3, 7), fan(1, 0, 3), sum(1, 3)],
+            &[sum(0, 3), sum(1, 0), Instruction::Wait { a: 1 }],
+        ],
+    );
+    cases.push(case(
+        &bytes,
+        &[5, 6, u32::MAX],
+        "start 0, step 0, step 0, step 0, start 3, start 2, start 1, step 3, step 3, step 2, step 1, step 2, step 0, \
+         step 1, end 2, step 1, end 1, step 3, step 0, end 3, step 0, end 0",
+    ));
+    cases.push(whole(&bytes, &[5, 6, u32::MAX]));
+    cases
+}
+
+/// #107: job 1 has this line. It adds 1 to entry 0 by a spawn, by two children of a fan and by itself: each
+/// child its number and 1. R1 is 0.
+pub fn children_that_sum(line: Line) -> Vec<u8> {
+    let add_one = [
+        Instruction::Add { a: 2, b: 0, c: 2 },
+        Instruction::Sum { a: 1, b: 2 },
+    ];
+    list(
+        2,
+        &[&[line], &[Line { kind: 5, value: 1 }]],
+        &[
+            &[spawn(1, 0)],
+            &[
+                constant(2, 1),
+                spawn(2, 1),
+                fan(2, 1, 2),
+                Instruction::Less { a: 3, b: 1, c: 2 },
+                Instruction::Wait { a: 1 },
+                sum(1, 2),
+            ],
+            &add_one,
+        ],
+    )
+}
+
+fn faults_of_sums() -> Vec<Case> {
+    let load = Instruction::Load { a: 1, b: 0 };
+    let store = Instruction::Store { a: 0, b: 1 };
+    let wait = Instruction::Wait { a: 0 };
+    let mut cases = Vec::new();
+    // Each use where the mode is sum, and where it is read; job 2 behind another of its mode. A fault comes
+    // before waiting; a wait has none.
+    for line in [sum_line(0), read_line(0)] {
+        for instruction in [load, store, sum(0, 1), wait] {
+            let bytes = list(
+                1,
+                &[&[line]],
+                &[&[spawn(1, 0), spawn(1, 0)], &[constant(1, 9), instruction]],
+            );
+            cases.push(case(
+                &bytes,
+                &[5],
+                "start 0, step 0, step 0, start 2, step 2, step 2, step 2, end 2, start 1, end 1",
+            ));
+        }
+    }
+    // An entry at C and above, and one that others hold.
+    for number in [2, 63, 64, 65535] {
+        let bytes = list(2, &[], &[&[constant(0, number), sum(0, 0)]]);
+        cases.push(whole(&bytes, &LIBRARY_P));
+    }
+    let bytes = list(
+        1,
+        &[&[sum_line(0)], &[]],
+        &[&[spawn(1, 0), spawn(1, 1)], &[sum(0, 0)]],
+    );
+    cases.push(case(
+        &bytes,
+        &[5],
+        "start 0, step 0, step 0, start 2, step 2, end 2, start 1",
+    ));
+    cases.push(whole(&lines_of_each_mode(), &LIBRARY_P));
+    // Lines in turn; the spawner sums entry 0, reads 1, writes 2 and has no 3. R1 is 0.
+    let own = [sum_line(0), read_line(1), write_line(2)];
+    let by_register = |kind| Line { kind, value: 1 };
+    let lines: [&[Line]; 9] = [
+        &[sum_line(0), by_register(5), sum_line(0)],
+        &[sum_line(0), by_register(2)],
+        &[sum_line(0), sum_line(1), sum_line(3)],
+        &[sum_line(3), sum_line(1)],
+        &[sum_line(2), read_line(2)],
+        &[read_line(2), sum_line(2)],
+        &[sum_line(2), sum_line(2), write_line(2)],
+        &[write_line(2), read_line(0)],
+        &[read_line(0), read_line(3)],
+    ];
+    for lines in lines {
+        let bytes = list(
+            4,
+            &[&own, lines],
+            &[&[spawn(1, 0)], &[spawn(2, 1), constant(2, 7)], &[]],
+        );
+        cases.push(case(
+            &bytes,
+            &[5, 6, 7, 8],
+            "start 0, step 0, start 1, step 1, start 2, step 1, end 1",
+        ));
+    }
+    // A fan of sums by R0: the second child's entry is read, the third's is none.
+    for children in [1, 2, 4] {
+        for lines in [&[SUM_BY_CHILD][..], &[sum_line(2), SUM_BY_CHILD]] {
+            let bytes = list(
+                4,
+                &[&own, lines],
+                &[&[spawn(1, 0)], &[fan(2, 1, children)], &[]],
+            );
+            cases.push(case(
+                &bytes,
+                &[5, 6, 7, 8],
+                "start 0, step 0, start 1, step 1, start 2, end 1",
+            ));
+        }
+    }
+    cases
+}
+
+/// #107: for each mode at entry 0 that a job has, none included, and each kind of line, one job spawns with
+/// such a line. By the job: read, write, sum, none; for each of them by the line: kinds 0 to 5.
+pub fn lines_of_each_mode() -> Vec<u8> {
+    let own: [&[Line]; 4] = [&[read_line(0)], &[write_line(0)], &[sum_line(0)], &[]];
+    let lines: Vec<[Line; 1]> = (0..6).map(|kind| [Line { kind, value: 0 }]).collect();
+    let mut footprints = own.to_vec();
+    footprints.extend(lines.iter().map(|line| &line[..]));
+    let spawns: Vec<[Instruction; 1]> = (0..6).map(|line| [spawn(7, 4 + line)]).collect();
+    let root: Vec<Instruction> = (0..24).map(|i| spawn(1 + i % 6, i / 6)).collect();
+    let mut bodies = vec![&root[..]];
+    bodies.extend(spawns.iter().map(|body| &body[..]));
+    bodies.push(&[]);
+    list(2, &footprints, &bodies)
+}
+
 fn refused_lists() -> Vec<Case> {
     let head = |locations| vec![0x4A, 0x48, locations, 0, 1, 0x4A, 0x42, 0];
     let mut cases = vec![
@@ -829,7 +1121,19 @@ fn refused_lists() -> Vec<Case> {
     cases.push(case(&footprint(&counts), &LIBRARY_P, ""));
     let counts = [[9].as_slice(), &[0; 18]].concat();
     cases.push(case(&footprint(&counts), &LIBRARY_P, ""));
-    for line in [[0, 1], [0, 2], [1, 2], [2, 3], [2, 4], [3, 4], [4, 0]] {
+    for line in [
+        [0, 1],
+        [0, 2],
+        [1, 2],
+        [2, 3],
+        [2, 4],
+        [3, 4],
+        [4, 1],
+        [4, 2],
+        [5, 3],
+        [5, 4],
+        [6, 0],
+    ] {
         cases.push(case(&footprint(&[1, line[0], line[1]]), &LIBRARY_P, ""));
     }
     // Sheet counts and instructions, likewise.
@@ -859,6 +1163,11 @@ fn refused_lists() -> Vec<Case> {
         [9, 2, 0, 2],
         [9, 1, 1, 2],
         [10, 0, 0, 0],
+        [10, 3, 3, 0],
+        [10, 4, 0, 0],
+        [10, 0, 4, 0],
+        [10, 0, 0, 1],
+        [11, 0, 0, 0],
     ] {
         let bytes = [&[1][..], &instruction].concat();
         cases.push(case(&sheet(&bytes), &LIBRARY_P, ""));

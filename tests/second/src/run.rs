@@ -34,11 +34,12 @@ pub const RECORDS: usize = 128;
 /// "a mode per entry (...; always 0 from C to 63)"
 pub const MODES: usize = 64;
 
-/// #105: "a lent table of 12 numbers of 16 bits: start, end, then codes 0 to 9, code 9's per child"
-pub const WEIGHTS: usize = 12;
+/// #105: "a lent table of 12 numbers of 16 bits: start, end, then codes 0 to 9, code 9's per child";
+/// "Later codes lengthen it by one each.": #107's code 10.
+pub const WEIGHTS: usize = 13;
 /// Today's numbers: "start 5, end 2, codes 0 to 8: 1, 1, 1, 1, 3, 4, 1, 8, 1"; #104, of a fan: "The weight
-/// is 8 × c."
-pub const TODAY: [u16; WEIGHTS] = [5, 2, 1, 1, 1, 1, 3, 4, 1, 8, 1, 8];
+/// is 8 × c."; #107, of code 10: "the coordinator's weight for it being 4".
+pub const TODAY: [u16; WEIGHTS] = [5, 2, 1, 1, 1, 1, 3, 4, 1, 8, 1, 8, 4];
 
 pub const NEVER_MADE: u8 = 0;
 pub const WAITING: u8 = 1;
@@ -48,6 +49,8 @@ pub const ENDED: u8 = 3;
 pub const NONE: u8 = 0;
 pub const READ: u8 = 1;
 pub const WRITE: u8 = 2;
+/// #107: "Add mode 3, sum"
+pub const SUM: u8 = 3;
 
 /// "A record has: state (...), sheet, place, four registers, a mode per entry (...), instructions
 /// done, fault, weight."
@@ -173,10 +176,31 @@ pub fn may_write(run: &Run, task: usize, location: usize) -> bool {
     ahead_of(run, task, location).is_empty()
 }
 
-/// "What the job's own mode there allows": reading in mode 1, writing in mode 2.
+/// #107: "A job of mode 3 may sum, and may start as far as that entry goes, when all ahead have mode 3".
+fn may_sum_beside(run: &Run, task: usize, location: usize) -> bool {
+    for other in ahead_of(run, task, location) {
+        if run.records[other].modes[location] != SUM {
+            return false;
+        }
+    }
+    true
+}
+
+/// #107: "A job of mode 3 may sum (...) when all ahead have mode 3; a writer sums only when none is ahead."
+/// Only asked in these two modes.
+fn may_sum(run: &Run, task: usize, location: usize) -> bool {
+    match run.records[task].modes[location] {
+        SUM => may_sum_beside(run, task, location),
+        _ => may_write(run, task, location),
+    }
+}
+
+/// "What the job's own mode there allows": reading in mode 1, writing in mode 2. #107: "A wait on a sum
+/// entry passes when all ahead have mode 3."
 fn may_use_own_mode(run: &Run, task: usize, location: usize) -> bool {
     match run.records[task].modes[location] {
         READ => may_read(run, task, location),
+        SUM => may_sum_beside(run, task, location),
         _ => may_write(run, task, location),
     }
 }
@@ -212,7 +236,7 @@ fn count_call(run: &mut Run, task: usize, weight: u64) {
     run.records[task].weight += weight;
 }
 
-/// #105: "start, end, then codes 0 to 9, code 9's per child".
+/// #105: "start, end, then codes 0 to 9, code 9's per child"; then #107's code 10.
 fn start_weight(run: &Run) -> u64 {
     run.table[0] as u64
 }
@@ -276,7 +300,8 @@ pub fn footprint_of(run: &Run, task: usize) -> Vec<usize> {
     footprint
 }
 
-/// "Start: the job may read each entry of mode 1 and write each of mode 2".
+/// "Start: the job may read each entry of mode 1 and write each of mode 2"; #107, of one of mode 3: it "may
+/// start as far as that entry goes, when all ahead have mode 3".
 fn start_may_go(run: &Run, task: usize, footprint: &[usize]) -> bool {
     for location in footprint {
         if !may_use_own_mode(run, task, *location) {
@@ -348,31 +373,44 @@ pub fn entry_concerned(run: &Run, task: usize, instruction: &Instruction) -> Vec
         Instruction::Load { b, .. } => vec![registers[*b as usize] as usize],
         Instruction::Store { a, .. } => vec![registers[*a as usize] as usize],
         Instruction::Wait { a } => vec![registers[*a as usize] as usize],
+        Instruction::Sum { a, .. } => vec![registers[*a as usize] as usize],
         _ => Vec::new(),
     }
 }
 
 /// "Load needs reading, store needs writing, wait needs what the job's own mode there allows. Const,
-/// add, sub, less, skip and spawn never wait." #104, of a fan: "in one step that never waits". Only
-/// asked when the step has no fault.
+/// add, sub, less, skip and spawn never wait." #104, of a fan: "in one step that never waits". #107 says
+/// when a sum may go. Only asked when the step has no fault.
 fn step_may_go(run: &Run, task: usize, instruction: &Instruction) -> bool {
     let registers = run.records[task].registers;
     match instruction {
         Instruction::Load { b, .. } => may_read(run, task, registers[*b as usize] as usize),
         Instruction::Store { a, .. } => may_write(run, task, registers[*a as usize] as usize),
         Instruction::Wait { a } => may_use_own_mode(run, task, registers[*a as usize] as usize),
+        Instruction::Sum { a, .. } => may_sum(run, task, registers[*a as usize] as usize),
         _ => true,
     }
 }
 
+/// What is done to an entry, or what a line gives the child leave to do.
+#[derive(Clone, Copy)]
+enum Use {
+    Read,
+    Write,
+    Sum,
+    Wait,
+}
+
 /// The fault of a step, 0 if it has none. "1: entry not in the job's footprint (C and above
 /// included). 2: store, or a write line, where its own mode is read." #106: "Fault 3 no longer occurs".
+/// #107 adds faults of sums.
 fn fault_of(run: &Run, task: usize, instruction: &Instruction) -> u8 {
     let registers = run.records[task].registers;
     match instruction {
-        Instruction::Load { b, .. } => fault_of_use(run, task, registers[*b as usize], false),
-        Instruction::Store { a, .. } => fault_of_use(run, task, registers[*a as usize], true),
-        Instruction::Wait { a } => fault_of_use(run, task, registers[*a as usize], false),
+        Instruction::Load { b, .. } => fault_of_use(run, task, registers[*b as usize], Use::Read),
+        Instruction::Store { a, .. } => fault_of_use(run, task, registers[*a as usize], Use::Write),
+        Instruction::Wait { a } => fault_of_use(run, task, registers[*a as usize], Use::Wait),
+        Instruction::Sum { a, .. } => fault_of_use(run, task, registers[*a as usize], Use::Sum),
         Instruction::Spawn { footprint, .. } => {
             fault_of_child(run, task, *footprint as usize, &registers)
         }
@@ -386,15 +424,25 @@ fn fault_of(run: &Run, task: usize, instruction: &Instruction) -> u8 {
 }
 
 /// Faults 1 and 2, in this order, for one entry.
-fn fault_of_use(run: &Run, task: usize, number: u32, writes: bool) -> u8 {
+fn fault_of_use(run: &Run, task: usize, number: u32, wanted: Use) -> u8 {
     let own = mode_at(run, task, number);
     if own == NONE {
         return 1;
     }
-    if writes && own == READ {
-        return 2;
+    let allowed = match wanted {
+        // #107: "load and store fault 2 on a sum entry"; "a read or write line faults 2 where it is sum"
+        Use::Read => own != SUM,
+        Use::Write => own != READ && own != SUM,
+        // "On a read entry it faults 2"; "A sum line faults 2 unless the spawner's mode is sum or write"
+        Use::Sum => own == SUM || own == WRITE,
+        // A wait has no fault 2.
+        Use::Wait => true,
+    };
+    if allowed {
+        0
+    } else {
+        2
     }
-    0
 }
 
 /// #104: "If any child would fault, in order of children and lines, none is made."
@@ -422,7 +470,12 @@ fn registers_of_child(run: &Run, task: usize, i: u8) -> [u32; 4] {
 fn fault_of_child(run: &Run, task: usize, footprint: usize, registers: &[u32; 4]) -> u8 {
     for line in &run.list.footprints[footprint] {
         let number = line_location(line, registers);
-        let fault = fault_of_use(run, task, number, line_mode(line) == WRITE);
+        let wanted = match line_mode(line) {
+            READ => Use::Read,
+            WRITE => Use::Write,
+            _ => Use::Sum,
+        };
+        let fault = fault_of_use(run, task, number, wanted);
         if fault != 0 {
             return fault;
         }
@@ -431,18 +484,19 @@ fn fault_of_child(run: &Run, task: usize, footprint: usize, registers: &[u32; 4]
 }
 
 /// "Kind 0 reads and 1 writes entry `value`; 2 reads and 3 writes the entry whose number is in
-/// register `value`."
-fn line_location(line: &Line, registers: &[u32; 4]) -> u32 {
+/// register `value`." #107: "line kind 4 sums a fixed entry, 5 one named by a register".
+pub fn line_location(line: &Line, registers: &[u32; 4]) -> u32 {
     match line.kind {
-        0 | 1 => line.value as u32,
+        0 | 1 | 4 => line.value as u32,
         _ => registers[line.value as usize],
     }
 }
 
-fn line_mode(line: &Line) -> u8 {
+pub fn line_mode(line: &Line) -> u8 {
     match line.kind {
         0 | 2 => READ,
-        _ => WRITE,
+        1 | 3 => WRITE,
+        _ => SUM,
     }
 }
 
@@ -522,6 +576,11 @@ pub fn step(run: &mut Run, number: u32) -> Result<(), u32> {
             children,
         } => {
             fan(run, task, body as usize, footprint as usize, children);
+        }
+        // #107: "entry number Ra := entry + Rb modulo 2^32"
+        Instruction::Sum { a, b } => {
+            let entry = &mut run.memory[value_of(a) as usize];
+            *entry = entry.wrapping_add(value_of(b));
         }
     }
     run.records[task].pc += 1 + passed_over;

@@ -34,18 +34,30 @@ fn files_are_read_as_they_were_written() {
     assert_eq!(decode_cases(&[0; 12]).unwrap().len(), 2);
 }
 
-fn has_fan(case: &Case) -> bool {
+/// The case's list is accepted and has such an instruction.
+fn has(case: &Case, such: fn(&Instruction) -> bool) -> bool {
     let Ok(list) = decode(&case.list) else {
         return false;
     };
-    let mut instructions = list.bodies.iter().flatten();
-    instructions.any(|instruction| matches!(instruction, Instruction::Fan { .. }))
+    list.bodies.iter().flatten().any(such)
+}
+
+fn has_fan(case: &Case) -> bool {
+    has(case, |instruction| {
+        matches!(instruction, Instruction::Fan { .. })
+    })
+}
+
+fn has_sum(case: &Case) -> bool {
+    has(case, |instruction| {
+        matches!(instruction, Instruction::Sum { .. })
+    })
 }
 
 #[test]
 fn the_stored_cases_reach_every_answer() {
     let cases = stored_cases(STORED_SEED, STORED_COUNT);
-    assert!(encode_cases(&cases).len() <= 40_000);
+    assert!(encode_cases(&cases).len() <= 50_000);
     let text = cases_output(&cases);
     assert!(text.len() <= 400_000);
     assert!(!text.contains("spoiled"));
@@ -67,6 +79,14 @@ fn the_stored_cases_reach_every_answer() {
     let named = named_cases().len();
     assert!(fans(&cases[..named]) > 40);
     assert!(fans(&cases[named..]) > STORED_COUNT / 8);
+    // #107: lists with sums, likewise; some are left where a job sums beside another.
+    let sums = |cases: &[Case]| cases.iter().filter(|case| has_sum(case)).count();
+    assert!(sums(&cases[..named]) > 20);
+    assert!(sums(&cases[named..]) > STORED_COUNT / 6);
+    let is_sum = |place: &&str| place.parse().is_ok_and(|place: u32| place / 256 == 3);
+    let queues = text.lines().filter(|line| line.starts_with("queue "));
+    let beside = queues.filter(|line| line.split(' ').skip(2).filter(is_sum).count() > 1);
+    assert!(beside.count() > 5);
     // The random ones often run to the end.
     let random = cases_output(&cases[named_cases().len()..]);
     let left = |line: &&str| line.starts_with("total ") && line.ends_with(" 0");

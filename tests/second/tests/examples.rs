@@ -2,11 +2,13 @@
 //! document 02 too.
 
 use second::cases::{doubling_list, fan_tree, library_bytes, table_bytes, EXAMPLE_P};
+use second::coordinator::call;
 use second::list::task_counts;
 use second::named::{
-    constant, fan, fan_of_strengths, fans_and_spawns, list, pairs_of_lines, read_line, spawn,
-    starts_behind_reader_and_writer, steps_behind_reader_and_writer, write_line, LIBRARY_P,
-    READ_BY_CHILD, WRITE_BY_CHILD,
+    children_that_sum, constant, fan, fan_of_strengths, fans_and_spawns, lines_of_each_mode, list,
+    pairs_of_lines, read_line, spawn, starts_behind_reader_and_writer,
+    steps_behind_reader_and_writer, sum, sum_line, sums_that_wrap, three_modes, two_that_sum,
+    write_line, LIBRARY_P, READ_BY_CHILD, SUM_BY_CHILD, WRITE_BY_CHILD,
 };
 use second::run::{may_read, never_made, search, ENDED, STARTED, WAITING};
 use second::*;
@@ -568,7 +570,7 @@ fn check_examples() {
     assert_eq!(check(&skip(1)), Ok(1));
     assert_eq!(check(&skip(2)), Err(5));
     // Three bytes of a bad instruction: not whole.
-    for code in [9, 10] {
+    for code in [9, 11] {
         assert_eq!(
             check(&[0x4A, 0x48, 1, 0, 1, 0x4A, 0x42, 1, code, 0, 0]),
             Err(1)
@@ -579,8 +581,8 @@ fn check_examples() {
         );
     }
     // Half a bad line: not whole.
-    assert_eq!(check(&[0x4A, 0x48, 1, 1, 1, 0x4A, 0x46, 1, 4]), Err(1));
-    assert_eq!(check(&[0x4A, 0x48, 1, 1, 1, 0x4A, 0x46, 1, 4, 0]), Err(4));
+    assert_eq!(check(&[0x4A, 0x48, 1, 1, 1, 0x4A, 0x46, 1, 6]), Err(1));
+    assert_eq!(check(&[0x4A, 0x48, 1, 1, 1, 0x4A, 0x46, 1, 6, 0]), Err(4));
     // 6 before 7.
     let mut bytes = encode(&doubling_list(2));
     bytes.push(0);
@@ -1033,12 +1035,14 @@ fn trees_of_fans() {
 }
 
 /// #105: a table in which each number tells its place: start 101, end 102, code k 110 + k.
-const TELLING: [u16; 12] = [101, 102, 110, 111, 112, 113, 114, 115, 116, 117, 118, 119];
+const TELLING: [u16; 13] = [
+    101, 102, 110, 111, 112, 113, 114, 115, 116, 117, 118, 119, 120,
+];
 
-/// #105: "start, end, then codes 0 to 9, code 9's per child".
+/// #105: "start, end, then codes 0 to 9, code 9's per child"; then #107's code 10.
 #[test]
 fn each_number_of_a_table() {
-    let cases: [(Instruction, u64); 11] = [
+    let cases: [(Instruction, u64); 12] = [
         (constant(1, 9), 110),
         (Instruction::Add { a: 0, b: 1, c: 2 }, 111),
         (Instruction::Sub { a: 0, b: 1, c: 2 }, 112),
@@ -1050,6 +1054,7 @@ fn each_number_of_a_table() {
         (Instruction::Wait { a: 0 }, 118),
         (fan(1, 0, 1), 119),
         (fan(1, 0, 16), 16 * 119),
+        (sum(0, 1), 120),
     ];
     for (instruction, weight) in cases {
         let bytes = list(1, &[&[]], &[&[instruction], &[]]);
@@ -1077,6 +1082,7 @@ fn a_faulting_step_weighs_by_the_table() {
         (Instruction::Wait { a: 1 }, 118),
         (spawn(1, 0), 117),
         (fan(1, 0, 7), 7 * 119),
+        (sum(1, 0), 120),
     ] {
         let by_register = Line { kind: 2, value: 1 };
         let bytes = list(1, &[&[by_register]], &[&[constant(1, 1), instruction], &[]]);
@@ -1109,7 +1115,7 @@ fn refusals_of_a_table() {
         assert_eq!(hand_run(&EXAMPLE_P, library, table).err(), opened);
         opened
     };
-    for place in 0..12 {
+    for place in 0..13 {
         for (number, expected) in [
             (0, Some(22)),
             (1, None),
@@ -1123,18 +1129,18 @@ fn refusals_of_a_table() {
             assert_eq!(refusal(&LIBRARY_P, &table), expected);
             // 8 before 21 and 22, 21 before 22.
             assert_eq!(refusal(&[5], &table), Some(8));
-            assert_eq!(refusal(&LIBRARY_P, &table[..11]), Some(21));
-            assert_eq!(refusal(&[5], &table[..11]), Some(8));
+            assert_eq!(refusal(&LIBRARY_P, &table[..12]), Some(21));
+            assert_eq!(refusal(&[5], &table[..12]), Some(8));
         }
     }
-    for length in [0, 1, 11, 13, 24] {
+    for length in [0, 1, 11, 12, 14, 26] {
         assert_eq!(refusal(&LIBRARY_P, &vec![1; length]), Some(21));
     }
     assert_eq!(open(&EXAMPLE_P[..53], &[], &[]), Err(1));
     // The empty list too.
     assert_eq!(open(&[], &[5], &[]), Err(21));
-    assert_eq!(open(&[], &[5], &[0; 12]), Err(22));
-    assert_eq!(open(&[], &[], &[0; 12]), Err(8));
+    assert_eq!(open(&[], &[5], &[0; 13]), Err(22));
+    assert_eq!(open(&[], &[], &[0; 13]), Err(8));
 }
 
 /// #105: "over the C boundary the table is bytes, two per number, least first"; 17 stays last.
@@ -1156,7 +1162,7 @@ fn the_table_over_the_c_boundary() {
     let today = table_bytes(&TODAY);
     assert_eq!(
         today,
-        [5, 0, 2, 0, 1, 0, 1, 0, 1, 0, 1, 0, 3, 0, 4, 0, 1, 0, 8, 0, 1, 0, 8, 0]
+        [5, 0, 2, 0, 1, 0, 1, 0, 1, 0, 1, 0, 3, 0, 4, 0, 1, 0, 8, 0, 1, 0, 8, 0, 4, 0]
     );
     assert_eq!(answer(&library, &today, 8), 0);
     let mut table = today.clone();
@@ -1171,7 +1177,7 @@ fn the_table_over_the_c_boundary() {
         (1, 4, 150),
         (255, 255, 150),
     ] {
-        for place in 0..12 {
+        for place in 0..13 {
             table[2 * place] = low;
             table[2 * place + 1] = high;
             assert_eq!(answer(&library, &table, 8), expected);
@@ -1181,8 +1187,403 @@ fn the_table_over_the_c_boundary() {
             table[2 * place..2 * place + 2].copy_from_slice(&today[2 * place..2 * place + 2]);
         }
     }
-    for length in (0..30).filter(|length| *length != 24) {
+    for length in (0..30).filter(|length| *length != 26) {
         assert_eq!(answer(&library, &[1; 30][..length], 7), 149);
         assert_eq!(answer(&library[..7], &[1; 30][..length], 7), 136);
+    }
+}
+
+/// #107: "line kind 4 sums a fixed entry, 5 one named by a register. New code 10: entry number Ra := entry +
+/// Rb".
+#[test]
+fn which_sums_are_good() {
+    let with_line = |kind, value| {
+        let bytes = [
+            0x4A, 0x48, 5, 1, 1, 0x4A, 0x46, 1, kind, value, 0x4A, 0x42, 0,
+        ];
+        check(&bytes)
+    };
+    for value in 0..=255 {
+        let answer = |good| if good { Ok(1) } else { Err(4) };
+        assert_eq!(with_line(4, value), answer(value < 5), "entry {value}");
+        assert_eq!(with_line(5, value), answer(value < 4), "register {value}");
+        assert_eq!(with_line(6, value), Err(4));
+    }
+    let with_instruction = |instruction: [u8; 4]| {
+        let mut bytes = vec![0x4A, 0x48, 5, 0, 1, 0x4A, 0x42, 1];
+        bytes.extend(instruction);
+        check(&bytes)
+    };
+    for field in 0..=255 {
+        let register = if field < 4 { Ok(1) } else { Err(5) };
+        assert_eq!(with_instruction([10, field, 0, 0]), register);
+        assert_eq!(with_instruction([10, 3, field, 0]), register);
+        let not_listed = if field == 0 { Ok(1) } else { Err(5) };
+        assert_eq!(with_instruction([10, 3, 3, field]), not_listed);
+        assert_eq!(with_instruction([11, field, 0, 0]), Err(5));
+    }
+    let lines = [sum_line(4), Line { kind: 5, value: 3 }];
+    let bytes = list(5, &[&lines], &[&[sum(2, 1)]]);
+    assert_eq!(bytes[8..12], [4, 4, 5, 3]);
+    assert_eq!(bytes[15..], [10, 2, 1, 0]);
+    assert_eq!(encode(&decode(&bytes).unwrap()), bytes);
+    // Half a line and three bytes of an instruction are not whole.
+    assert_eq!(check(&bytes[..9]), Err(1));
+    assert_eq!(check(&bytes[..18]), Err(1));
+}
+
+/// Makes these calls: a kind (0 start, 1 step, 2 end) and a job, with what each answers.
+fn calls(run: &mut Run, calls: &[(u8, u32, u32)]) {
+    for (i, (kind, task, answer)) in calls.iter().enumerate() {
+        let given = call(run, *kind, *task).err().unwrap_or(0);
+        assert_eq!(given, *answer, "call {i}: {kind} of job {task}");
+    }
+}
+
+/// #107: "A job of mode 3 may sum, and may start as far as that entry goes, when all ahead have mode 3; a
+/// writer sums only when none is ahead." "All orders of adding still end as the hand run does".
+#[test]
+fn two_jobs_sum_in_either_order() {
+    let wait = Instruction::Wait { a: 0 };
+    let bytes = two_that_sum(wait);
+    let hand = hand_run(&bytes, &[5], &TODAY).unwrap();
+    assert_eq!(hand.memory, [48]);
+    assert_eq!(hand.records[0].registers, [0, 40, 0, 48]);
+    // 5 + 1 + 8 + 1 + 8 + 1 + 3 + 2, and twice 5 + 4 + 2.
+    assert_eq!((hand.calls, hand.weight), (14, 29 + 2 * 11));
+    for [first, other] in [[1, 2], [2, 1]] {
+        let mut run = open(&bytes, &[5], &TODAY).unwrap();
+        start_and_step(&mut run, 0, 4);
+        assert_eq!(queue_of(&run, 0), [769, 770, 512]);
+        calls(&mut run, &[(0, first, 0), (1, first, 0), (1, 0, 20)]);
+        assert_eq!(run.memory, [if first == 1 { 8 } else { 45 }]);
+        calls(&mut run, &[(0, other, 0), (2, first, 0), (1, 0, 20)]);
+        calls(&mut run, &[(1, other, 0), (1, 0, 20), (2, other, 0)]);
+        assert_eq!(run.memory, [48]);
+        calls(&mut run, &[(1, 0, 0), (1, 0, 0), (2, 0, 0)]);
+        assert_eq!(run, hand);
+    }
+    // A writer behind sums only: load, store and sum are held back by 20 too.
+    for (instruction, entry, register) in [
+        (Instruction::Load { a: 2, b: 0 }, 48, 48),
+        (Instruction::Store { a: 0, b: 1 }, 40, 0),
+        (sum(0, 1), 88, 0),
+    ] {
+        let bytes = two_that_sum(instruction);
+        let mut run = open(&bytes, &[5], &TODAY).unwrap();
+        start_and_step(&mut run, 0, 4);
+        let before = run.clone();
+        calls(&mut run, &[(1, 0, 20)]);
+        assert_eq!(run, before);
+        start_and_step(&mut run, 2, 1);
+        calls(&mut run, &[(1, 0, 20), (2, 2, 0), (1, 0, 20)]);
+        start_and_step(&mut run, 1, 1);
+        calls(&mut run, &[(1, 0, 20), (2, 1, 0), (1, 0, 0)]);
+        assert_eq!(run.memory, [entry]);
+        assert_eq!(run.records[0].registers[2], register);
+        calls(&mut run, &[(1, 0, 0), (2, 0, 0)]);
+        assert_eq!(run, hand_run(&bytes, &[5], &TODAY).unwrap());
+    }
+}
+
+/// #107: starts behind each mode, alone and behind another job. The search goes past sums to a writer.
+#[test]
+fn starts_behind_sums() {
+    let (read, write, sums) = (0, 1, 4);
+    for (kinds, second, third, looked) in [
+        ([sums, sums, sums], 0, 0, 3),
+        ([sums, read, sums], 20, 20, 3),
+        ([sums, sums, read], 0, 20, 3),
+        ([sums, sums, write], 0, 20, 3),
+        ([sums, read, read], 20, 20, 3),
+        ([sums, write, sums], 20, 19, 2),
+        ([sums, write, read], 20, 19, 2),
+        ([read, sums, sums], 20, 20, 3),
+        ([read, read, sums], 0, 20, 3),
+        ([read, sums, read], 20, 20, 3),
+        ([write, sums, sums], 19, 19, 1),
+        ([read, write, sums], 20, 19, 2),
+    ] {
+        let bytes = three_modes(kinds);
+        let mut run = open(&bytes, &[5], &TODAY).unwrap();
+        start_and_step(&mut run, 0, 3);
+        assert_eq!(run.order, [1, 2, 3, 0]);
+        let found = (third == 19, looked);
+        assert_eq!(search(&run, 3, &[0]), found, "{kinds:?}");
+        calls(&mut run, &[(0, 3, third), (0, 2, second), (0, 1, 0)]);
+        // Whether those ahead wait or have started does not matter.
+        let again = |answer| if answer == 0 { 11 } else { answer };
+        calls(&mut run, &[(0, 2, again(second)), (0, 3, again(third))]);
+        assert_eq!(search(&run, 3, &[0]), found);
+        let mode = |kind| [257, 513, 769][[0, 1, 4].iter().position(|k| *k == kind).unwrap()];
+        let queue: Vec<u16> = (0..3).map(|i| mode(kinds[i]) + i as u16).collect();
+        assert_eq!(queue_of(&run, 0), [&queue[..], &[512]].concat());
+    }
+}
+
+/// #107: "A wait on a sum entry passes when all ahead have mode 3"; of a job that reads another entry all
+/// entries count at the start, and one for a step.
+#[test]
+fn waits_on_a_sum_entry() {
+    let wait = Instruction::Wait { a: 0 };
+    let bytes = list(
+        2,
+        &[&[sum_line(0)], &[sum_line(0), write_line(1)]],
+        &[
+            &[spawn(1, 0), spawn(1, 1), spawn(1, 1), wait],
+            &[wait, sum(0, 1)],
+        ],
+    );
+    let mut run = open(&bytes, &LIBRARY_P, &TODAY).unwrap();
+    start_and_step(&mut run, 0, 3);
+    assert_eq!(queue_of(&run, 0), [769, 770, 771, 512]);
+    // Job 3 behind the writer of entry 1; job 0, a writer, behind sums and behind none.
+    calls(
+        &mut run,
+        &[(0, 3, 19), (0, 2, 0), (1, 2, 0), (1, 2, 0), (1, 0, 20)],
+    );
+    calls(
+        &mut run,
+        &[(2, 2, 0), (0, 3, 0), (1, 3, 0), (1, 3, 0), (2, 3, 0)],
+    );
+    calls(
+        &mut run,
+        &[(1, 0, 20), (0, 1, 0), (1, 1, 0), (1, 1, 0), (1, 0, 20)],
+    );
+    calls(&mut run, &[(2, 1, 0), (1, 0, 0), (2, 0, 0)]);
+    assert_eq!(run, hand_run(&bytes, &LIBRARY_P, &TODAY).unwrap());
+}
+
+/// #107: "entry + Rb modulo 2^32".
+#[test]
+fn sums_wrap() {
+    for (entry, after) in [
+        (5, 7),
+        (u32::MAX, 1),
+        (u32::MAX - 2, u32::MAX),
+        (u32::MAX - 1, 0),
+        (0x7FFF_FFFF, 0x8000_0001),
+    ] {
+        let run = hand_run(&sums_that_wrap(), &[entry, u32::MAX], &TODAY).unwrap();
+        assert_eq!(run.memory, [after, 0]);
+        // A sum changes no register; the last load shows entry 1.
+        assert_eq!(run.records[0].registers, [0, 3, 1, 0]);
+    }
+}
+
+/// #107: a spawner of mode sum sums beside its children, one of mode write behind them.
+#[test]
+fn a_spawner_beside_its_children() {
+    for (line, held) in [(sum_line(0), 0), (write_line(0), 20)] {
+        let bytes = children_that_sum(line);
+        assert_eq!(check(&bytes), Ok(5));
+        let mut run = open(&bytes, &LIBRARY_P, &TODAY).unwrap();
+        start_and_step(&mut run, 0, 1);
+        start_and_step(&mut run, 1, 4);
+        assert_eq!(run.order, [2, 3, 4, 1, 0]);
+        let own = if held == 0 { 769 } else { 513 };
+        assert_eq!(queue_of(&run, 0), [770, 771, 772, own, 512]);
+        assert_eq!(queue_of(&run, 1), [512]);
+        calls(&mut run, &[(0, 4, 0), (1, 4, 0), (1, 4, 0), (1, 1, held)]);
+        // 1 and the last child's number.
+        assert_eq!(run.memory[0], 7);
+        calls(
+            &mut run,
+            &[(0, 2, 0), (0, 3, 0), (1, 3, 0), (1, 3, 0), (2, 4, 0)],
+        );
+        calls(
+            &mut run,
+            &[(1, 1, held), (1, 2, 0), (2, 3, 0), (1, 2, 0), (2, 2, 0)],
+        );
+        if held != 0 {
+            calls(&mut run, &[(1, 1, 0), (1, 1, 0)]);
+        }
+        assert_eq!(run.memory, [10, 7]);
+        calls(&mut run, &[(2, 1, 0), (2, 0, 0)]);
+        assert_eq!(run, hand_run(&bytes, &LIBRARY_P, &TODAY).unwrap());
+    }
+}
+
+/// #107: "On a read entry it faults 2; load and store fault 2 on a sum entry." Before waiting; a wait has no
+/// fault there.
+#[test]
+fn faults_of_sum_load_and_store() {
+    let load = Instruction::Load { a: 1, b: 0 };
+    let store = Instruction::Store { a: 0, b: 1 };
+    let wait = Instruction::Wait { a: 0 };
+    for (line, instruction, fault) in [
+        (Some(sum_line(0)), load, 2),
+        (Some(sum_line(0)), store, 2),
+        (Some(sum_line(0)), wait, 0),
+        (Some(sum_line(0)), sum(0, 1), 0),
+        (Some(read_line(0)), sum(0, 1), 2),
+        (Some(write_line(0)), sum(0, 1), 0),
+        (None, sum(0, 1), 1),
+    ] {
+        let lines: Vec<Line> = line.into_iter().collect();
+        let body = [constant(1, 9), instruction];
+        let bytes = list(1, &[&lines], &[&[spawn(1, 0), spawn(1, 0)], &body]);
+        let mut run = open(&bytes, &[5], &TODAY).unwrap();
+        start_and_step(&mut run, 0, 2);
+        // Job 2 is behind another of the same mode; a writer can't be started there.
+        if line == Some(write_line(0)) {
+            start_and_step(&mut run, 1, 2);
+            calls(&mut run, &[(2, 1, 0)]);
+        }
+        let entry = run.memory[0];
+        start_and_step(&mut run, 2, 2);
+        let child = record(&run, 2).unwrap();
+        let place = if fault == 0 { 2 } else { 1 };
+        assert_eq!((child.fault, child.pc), (fault, place), "{line:?}");
+        assert_eq!((child.steps, child.registers), (2, [0, 9, 0, 0]));
+        let added = if fault == 0 && instruction != wait {
+            9
+        } else {
+            0
+        };
+        assert_eq!(run.memory, [entry + added]);
+        calls(&mut run, &[(1, 2, 14), (2, 2, 0)]);
+    }
+    // C and above.
+    for number in [2, 63, 64, 65535] {
+        let bytes = list(2, &[], &[&[constant(0, number), sum(0, 0)]]);
+        let run = hand_run(&bytes, &LIBRARY_P, &TODAY).unwrap();
+        assert_eq!((run.records[0].fault, &run.memory[..]), (1, &LIBRARY_P[..]));
+        assert_eq!((run.calls, run.weight), (4, 12));
+    }
+}
+
+/// #107: "A sum line faults 2 unless the spawner's mode is sum or write; a read or write line faults 2 where
+/// it is sum." Where it is none: 1.
+#[test]
+fn lines_by_the_mode_of_the_spawner() {
+    let run = hand_run(&lines_of_each_mode(), &LIBRARY_P, &TODAY).unwrap();
+    let (read, write, sums) = (1, 2, 3);
+    for (own, faults) in [
+        (read, [0, 2, 0, 2, 2, 2]),
+        (write, [0; 6]),
+        (sums, [2, 2, 2, 2, 0, 0]),
+        (0, [1; 6]),
+    ] {
+        let place = [read, write, sums, 0]
+            .iter()
+            .position(|m| *m == own)
+            .unwrap();
+        for kind in 0..6 {
+            let spawner = 1 + 2 * (6 * place + kind);
+            let record = &run.records[spawner];
+            assert_eq!((record.body, record.modes[0]), (1 + kind, own));
+            assert_eq!(record.fault, faults[kind], "mode {own}, kind {kind}");
+            let child = &run.records[spawner + 1];
+            let made = if faults[kind] == 0 { ENDED } else { 0 };
+            let mode = [read, write, read, write, sums, sums][kind];
+            assert_eq!(child.state, made);
+            assert_eq!(child.modes[0], if made == ENDED { mode } else { 0 });
+        }
+    }
+}
+
+/// #106, #107: one common mode, else write; each line is tested by the spawner's mode alone.
+#[test]
+fn sum_lines_on_one_entry() {
+    let (read, write, sums) = (read_line(0), write_line(0), sum_line(0));
+    let by_register = Line { kind: 5, value: 0 };
+    for (own, lines, fault, mode) in [
+        (write, &[sums, sums][..], 0, 3),
+        (write, &[sums, by_register, sums], 0, 3),
+        (write, &[sums, read], 0, 2),
+        (write, &[read, sums], 0, 2),
+        (write, &[sums, sums, write], 0, 2),
+        (write, &[write, sums], 0, 2),
+        (write, &[read, read, by_register], 0, 2),
+        (sums, &[sums, by_register], 0, 3),
+        (sums, &[sums, read], 2, 0),
+        (sums, &[write, sums], 2, 0),
+        (read, &[read, sums], 2, 0),
+        (read, &[read_line(1), sums], 1, 0),
+        (sums, &[sums, sum_line(1)], 1, 0),
+    ] {
+        let bytes = list(2, &[&[own], lines], &[&[spawn(1, 0)], &[spawn(2, 1)], &[]]);
+        let run = hand_run(&bytes, &LIBRARY_P, &TODAY).unwrap();
+        assert_eq!(run.records[1].fault, fault, "{own:?} {lines:?}");
+        assert_eq!(run.records[2].modes[..2], [mode, 0], "{own:?} {lines:?}");
+    }
+}
+
+/// #104, #107: the children of a fan that sum one entry go in any order, also with an entry for each.
+#[test]
+fn a_fan_of_sums() {
+    let bytes = list(
+        4,
+        &[&[SUM_BY_CHILD, sum_line(3)]],
+        &[&[constant(1, 3), fan(1, 0, 3)], &[sum(0, 1), sum(1, 0)]],
+    );
+    let hand = hand_run(&bytes, &[5, 6, 7, 8], &TODAY).unwrap();
+    assert_eq!(hand.memory, [8, 9, 10, 11]);
+    for order in [[1, 2, 3], [3, 2, 1], [2, 3, 1], [3, 1, 2]] {
+        let mut run = open(&bytes, &[5, 6, 7, 8], &TODAY).unwrap();
+        start_and_step(&mut run, 0, 2);
+        assert_eq!(queue_of(&run, 3), [769, 770, 771, 512]);
+        for task in order {
+            start_and_step(&mut run, task, 1);
+        }
+        for task in order {
+            calls(&mut run, &[(1, task, 0)]);
+        }
+        for task in order {
+            calls(&mut run, &[(2, task, 0)]);
+        }
+        calls(&mut run, &[(2, 0, 0)]);
+        assert_eq!(run, hand);
+    }
+}
+
+/// Every run that calls reach from a fresh one: where no job is left it is the hand run's, else some call is
+/// accepted. How many there are.
+fn assert_all_orders(bytes: &[u8], library: &[u32]) -> usize {
+    let hand = hand_run(bytes, library, &TODAY).unwrap();
+    let mut left = vec![open(bytes, library, &TODAY).unwrap()];
+    let mut seen = std::collections::HashSet::new();
+    while let Some(run) = left.pop() {
+        if !seen.insert(format!(
+            "{:?} {:?} {:?}",
+            run.records, run.order, run.memory
+        )) {
+            continue;
+        }
+        if run.order.is_empty() {
+            assert_eq!(run, hand);
+            continue;
+        }
+        let before = left.len();
+        for task in run.order.clone() {
+            for kind in 0..3 {
+                let mut next = run.clone();
+                if call(&mut next, kind, task as u32).is_ok() {
+                    left.push(next);
+                }
+            }
+        }
+        assert!(left.len() > before);
+    }
+    seen.len()
+}
+
+/// #107: "All orders of adding still end as the hand run does, job records too."
+#[test]
+fn all_orders_of_adding() {
+    for instruction in [
+        Instruction::Wait { a: 0 },
+        Instruction::Load { a: 2, b: 0 },
+        Instruction::Store { a: 0, b: 1 },
+        sum(0, 1),
+    ] {
+        assert!(assert_all_orders(&two_that_sum(instruction), &[5]) > 20);
+    }
+    for line in [sum_line(0), write_line(0)] {
+        assert!(assert_all_orders(&children_that_sum(line), &LIBRARY_P) > 100);
+    }
+    for kinds in [[4, 4, 4], [4, 0, 4], [4, 1, 4], [0, 4, 1], [4, 4, 0]] {
+        assert!(assert_all_orders(&three_modes(kinds), &[5]) > 20);
     }
 }

@@ -5,8 +5,8 @@ use second::coordinator::call;
 use second::list::{encode_instruction, task_count};
 use second::rng::Rng;
 use second::run::{
-    at_its_end, entry_concerned, footprint_of, instruction_at, queue_of, search, test_start,
-    test_step, ENDED, RECORDS, STARTED, WAITING, WEIGHTS, WRITE,
+    at_its_end, entry_concerned, footprint_of, instruction_at, line_location, line_mode, queue_of,
+    search, test_start, test_step, ENDED, NONE, RECORDS, STARTED, SUM, WAITING, WEIGHTS, WRITE,
 };
 use second::*;
 
@@ -53,15 +53,70 @@ struct Met {
     faults: [u64; 3],
     /// By the fault of the step, 0 where it made its children.
     fans: [u64; 3],
+    /// #107: sums by the fault of the step; then those without a fault by a writer, by a job of mode sum, and
+    /// by such a one with others ahead of it.
+    sums: [u64; 3],
+    summed: [u64; 3],
+    /// Waits that passed with sums ahead, and steps of a writer that were held by sums alone.
+    waits_beside: u64,
+    held_by_sums: u64,
     most_jobs: u64,
     most_in_order: usize,
 }
 
-/// The job's next step would be a fan.
-fn is_at_fan(run: &Run, task: usize) -> bool {
-    run.order.contains(&task)
-        && !at_its_end(run, task)
-        && matches!(instruction_at(run, task), Instruction::Fan { .. })
+/// The instruction of the job's next step, and the entry that it concerns with the modes of the jobs ahead
+/// there; none where the call is no step, or the job is not in the order or is at its end.
+fn next_step(run: &Run, kind: u8, task: u32) -> Option<(Instruction, Option<(usize, Vec<u8>)>)> {
+    let task = task as usize;
+    if kind != 1 || !run.order.contains(&task) || at_its_end(run, task) {
+        return None;
+    }
+    let instruction = instruction_at(run, task);
+    let entries = entry_concerned(run, task, &instruction);
+    let entry = entries.first().filter(|entry| **entry < run.list.locations);
+    let ahead = entry.map(|entry| {
+        let ahead = queue_of(run, *entry).into_iter();
+        let ahead = ahead.take_while(|other| *other != task);
+        let modes = ahead.map(|other| run.records[other].modes[*entry]);
+        (*entry, modes.collect())
+    });
+    Some((instruction, ahead))
+}
+
+impl Met {
+    /// What this step met, by the answer.
+    fn count_step(
+        &mut self,
+        run: &Run,
+        task: u32,
+        instruction: Instruction,
+        entry: Option<(usize, Vec<u8>)>,
+        answer: Result<(), u32>,
+    ) {
+        let record = run.records.get(task as usize);
+        let own = |entry: usize| record.map_or(NONE, |record| record.modes[entry]);
+        let fault = record.map_or(0, |record| record.fault as usize);
+        match (instruction, answer, entry) {
+            (Instruction::Fan { .. }, Ok(()), _) => self.fans[fault] += 1,
+            (Instruction::Sum { .. }, Ok(()), entry) => {
+                self.sums[fault] += 1;
+                if let (0, Some((entry, ahead))) = (fault, entry) {
+                    let beside = !ahead.is_empty();
+                    assert!(ahead.iter().all(|mode| *mode == SUM && own(entry) == SUM));
+                    self.summed[(own(entry) == SUM) as usize + beside as usize] += 1;
+                }
+            }
+            (Instruction::Wait { .. }, Ok(()), Some((entry, ahead))) => {
+                self.waits_beside += (own(entry) == SUM && !ahead.is_empty()) as u64;
+            }
+            (_, Err(20), Some((entry, ahead))) => {
+                let sums = ahead.iter().all(|mode| *mode == SUM);
+                assert!(!sums || own(entry) == WRITE);
+                self.held_by_sums += sums as u64;
+            }
+            _ => {}
+        }
+    }
 }
 
 /// One random order of calls until no job is left, demand 3 after each accepted call.
@@ -77,12 +132,13 @@ fn random_order(rng: &mut Rng, bytes: &[u8], library: &[u32], met: &mut Met) {
     assert_demand_3(&run, &hand, accepted);
     while !run.order.is_empty() {
         let (kind, task) = next_call(rng, strategy, &run, last, any_percent);
-        let fan = kind == 1 && is_at_fan(&run, task as usize);
-        match call(&mut run, kind, task) {
+        let stepped = next_step(&run, kind, task);
+        let answer = call(&mut run, kind, task);
+        if let Some((instruction, entry)) = stepped {
+            met.count_step(&run, task, instruction, entry, answer);
+        }
+        match answer {
             Ok(()) => {
-                if fan {
-                    met.fans[run.records[task as usize].fault as usize] += 1;
-                }
                 accepted += 1;
                 last = task;
                 assert_demand_3(&run, &hand, accepted);
@@ -136,10 +192,17 @@ fn demand_3_on_random_lists() {
         met.most_jobs, met.most_in_order
     );
     println!("fans {:?}", met.fans);
+    println!(
+        "sums {:?}, by a writer, by a sum, beside others {:?}; waits beside {}, held by sums {}",
+        met.sums, met.summed, met.waits_beside, met.held_by_sums
+    );
     for fault in 0..3 {
         assert!(met.faults[fault] > 100);
         assert!(met.fans[fault] > 20);
+        assert!(met.sums[fault] > 100);
+        assert!(met.summed[fault] > 500);
     }
+    assert!(met.waits_beside > 50 && met.held_by_sums > 100);
     assert!(met.most_jobs > 100);
     assert!(met.most_in_order > 50);
     assert!(empty > 10);
@@ -168,28 +231,29 @@ fn demand_3_on_a_tree_of_fans() {
     assert_eq!(met.fans, [180, 0, 0]);
 }
 
-/// #106: the mode of a child is never above its spawner's, whatever its lines name twice. After a step that
-/// made children, these stand directly ahead of their spawner. How often an entry was named once and
-/// more often, and was then given read and write.
-fn assert_modes(run: &Run, task: usize, made: usize, footprint: usize, met: &mut [[u64; 2]; 2]) {
+/// #106: the mode of a child is never above its spawner's, whatever its lines name twice: it is the spawner's
+/// own, or the spawner's is write. After a step that made children, these stand directly ahead of their
+/// spawner. How often an entry was named once and more often, and was then given read, write and sum.
+fn assert_modes(run: &Run, task: usize, made: usize, footprint: usize, met: &mut [[u64; 3]; 2]) {
     let place = run.order.iter().position(|other| *other == task).unwrap();
     for child in &run.order[place - made..place] {
         let child = &run.records[*child];
         for (entry, mode) in child.modes.iter().enumerate() {
-            assert!(*mode <= run.records[task].modes[entry]);
-            let named = |line: &&Line| match line.kind {
-                0 | 1 => line.value as usize == entry,
-                _ => child.registers[line.value as usize] as usize == entry,
-            };
-            let lines: Vec<&Line> = run.list.footprints[footprint]
+            let own = run.records[task].modes[entry];
+            assert!(*mode == NONE || own == WRITE || own == *mode);
+            let named: Vec<u8> = run.list.footprints[footprint]
                 .iter()
-                .filter(named)
+                .filter(|line| line_location(line, &child.registers) as usize == entry)
+                .map(line_mode)
                 .collect();
-            let writes = lines.iter().any(|line| line.kind % 2 == 1);
-            let expected = (!lines.is_empty()) as u8 + writes as u8;
+            let expected = match named.first() {
+                None => NONE,
+                Some(first) if named.iter().all(|mode| mode == first) => *first,
+                Some(_) => WRITE,
+            };
             assert_eq!(*mode, expected);
-            if !lines.is_empty() {
-                met[(lines.len() > 1) as usize][writes as usize] += 1;
+            if *mode != NONE {
+                met[(named.len() > 1) as usize][*mode as usize - 1] += 1;
             }
         }
     }
@@ -197,7 +261,7 @@ fn assert_modes(run: &Run, task: usize, made: usize, footprint: usize, met: &mut
 
 #[test]
 fn modes_on_random_runs() {
-    let mut met = [[0; 2]; 2];
+    let mut met = [[0; 3]; 2];
     for seed in 0..1500 {
         let mut rng = Rng::new(80_000 + seed);
         let bytes = accepted_file(&mut rng);
@@ -224,13 +288,14 @@ fn modes_on_random_runs() {
             }
         }
     }
-    println!("entries named once and more often, with read and with write {met:?}");
+    println!("entries named once and more often, with read, with write and with sum {met:?}");
     assert!(met.iter().flatten().all(|count| *count > 100));
 }
 
 /// #103 for one job that waits, or is to make a step: what a search finds and where it stops, by the
-/// queues alone; and what the call answers. How often a search stopped at a writer and at the job.
-fn assert_search(run: &Run, task: usize, stops: &mut [u64; 2]) {
+/// queues alone; and what the call answers. How often a search stopped at the job and at a writer; then the
+/// same where it had passed a sum (#107).
+fn assert_search(run: &Run, task: usize, stops: &mut [[u64; 2]; 2]) {
     let (entries, answer) = if run.records[task].state == WAITING {
         (footprint_of(run, task), test_start(run, task as u32))
     } else {
@@ -246,10 +311,14 @@ fn assert_search(run: &Run, task: usize, stops: &mut [u64; 2]) {
     };
     let place = |job: usize| 1 + run.order.iter().position(|other| *other == job).unwrap();
     let mut writers = Vec::new();
+    let mut sums = Vec::new();
     for entry in &entries {
         for other in queue_of(run, *entry) {
             if place(other) < place(task) && run.records[other].modes[*entry] == WRITE {
                 writers.push(place(other));
+            }
+            if place(other) < place(task) && run.records[other].modes[*entry] == SUM {
+                sums.push(place(other));
             }
         }
     }
@@ -262,12 +331,13 @@ fn assert_search(run: &Run, task: usize, stops: &mut [u64; 2]) {
         Ok(_) => assert!(!writer_ahead && looked == place(task)),
         Err(refusal) => assert_eq!(refusal, if writer_ahead { 19 } else { 20 }),
     }
-    stops[writer_ahead as usize] += 1;
+    let passed = sums.iter().any(|place| *place < looked);
+    stops[passed as usize][writer_ahead as usize] += 1;
 }
 
 #[test]
 fn searches_on_random_runs() {
-    let mut stops = [0; 2];
+    let mut stops = [[0; 2]; 2];
     for seed in 0..400 {
         let mut rng = Rng::new(60_000 + seed);
         let bytes = accepted_file(&mut rng);
@@ -284,8 +354,9 @@ fn searches_on_random_runs() {
             }
         }
     }
-    println!("stopped at the job and at a writer {stops:?}");
-    assert!(stops.iter().all(|count| *count > 1000));
+    println!("stopped at the job and at a writer, past no sum and past one {stops:?}");
+    assert!(stops[0].iter().all(|count| *count > 1000));
+    assert!(stops[1].iter().all(|count| *count > 200));
 }
 
 #[test]
@@ -404,6 +475,47 @@ fn each_refusal_of_check_is_reached() {
             );
         }
     }
+}
+
+/// #107: lists with sums are among the accepted ones: lines of both kinds, by a fan's children too, and the
+/// instruction. Damaged ones give 4 and 5.
+#[test]
+fn sums_are_reached() {
+    let mut lines = [0u64; 6];
+    let (mut by_child, mut sums, mut fans) = (0, 0, 0);
+    for seed in 0..2000 {
+        let list = random_list(&mut Rng::new(110_000 + seed));
+        for line in list.footprints.iter().flatten() {
+            lines[line.kind as usize] += 1;
+            by_child += (line.kind == 5 && line.value == 0) as u64;
+        }
+        for instruction in list.bodies.iter().flatten() {
+            sums += matches!(instruction, Instruction::Sum { .. }) as u64;
+            if let Instruction::Fan { footprint, .. } = instruction {
+                let mut lines = list.footprints[*footprint as usize].iter();
+                fans += lines.any(|line| line_mode(line) == SUM) as u64;
+            }
+        }
+    }
+    println!(
+        "lines by kind {lines:?}, {by_child} sums by R0, {sums} sums, {fans} fans that give sum"
+    );
+    assert!(lines.iter().all(|count| *count > 1000));
+    assert!(by_child > 300 && sums > 1000 && fans > 500);
+    let mut bad = [0u64; 4];
+    for seed in 0..2000 {
+        let bytes = damaged_list(&mut Rng::new(120_000 + seed), 4);
+        // The damaged line is often the last two bytes, the instruction the last four.
+        if let [.., kind @ 4..=6, _] = bytes[..] {
+            bad[kind as usize - 4] += 1;
+        }
+        let bytes = damaged_list(&mut Rng::new(130_000 + seed), 5);
+        if let [.., 10, _, _, _] = bytes[..] {
+            bad[3] += 1;
+        }
+    }
+    println!("bad lines of kinds 4 to 6, bad sums {bad:?}");
+    assert!(bad.iter().all(|count| *count > 5));
 }
 
 /// #104: damaged fans are among the lists that give 5: of no child, of 17, of more.
@@ -566,7 +678,9 @@ fn bad_tables() {
         let bytes = accepted_file(&mut rng);
         let library = fitting_library(&mut rng, &bytes);
         let table = bad_table(&mut rng);
-        let length = rng.pick(&[0, 1, 10, 11, 13, 15, 24]);
+        // #107: the table of twelve numbers, today's too, is too short now.
+        let length = rng.pick(&[0, 1, 11, 12, 14, 15, 26]);
+        assert_eq!(open(&bytes, &library, &TODAY[..12]), Err(21));
         let other = [&table[..], &table].concat()[..length].to_vec();
         for (library, table, refusal) in [
             (&library[..], &table[..], 22),

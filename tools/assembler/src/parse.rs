@@ -106,19 +106,29 @@ fn take_footprint(said: &mut Text, line: usize, left: &mut Words) -> Result<(), 
     }
 }
 
-/// "Kind 0 reads and 1 writes entry `value`; 2 reads and 3 writes the entry whose number is in register `value`."
+/// "Kind 0 reads and 1 writes entry `value`; 2 reads and 3 writes the entry whose number is in register `value`." Request
+/// 107: "line kind 4 sums a fixed entry, 5 one named by a register".
 fn take_access(left: &mut Words, entries: u8) -> Result<Access, String> {
-    let kind = match left.next() {
-        "read" => 0,
-        "write" => 1,
-        "" => return Err("the line ends where `read`, `write` or `none` is wanted".to_string()),
-        word => return Err(format!("`{word}` stands where `read` or `write` is wanted")),
+    let (kind, by_register) = match left.next() {
+        "read" => (0, 2),
+        "write" => (1, 3),
+        "sum" => (4, 5),
+        "" => {
+            return Err(
+                "the line ends where `read`, `write`, `sum` or `none` is wanted".to_string(),
+            )
+        }
+        word => {
+            return Err(format!(
+                "`{word}` stands where `read`, `write` or `sum` is wanted"
+            ))
+        }
     };
     left.expect("entry")?;
     if left.peek(0).starts_with('R') {
         let value = left.register()?;
         return Ok(Access {
-            kind: kind + 2,
+            kind: by_register,
             value,
         });
     }
@@ -151,7 +161,8 @@ fn take_placed(said: &mut Text, line: usize, left: &mut Words) -> Result<(), Str
     Ok(())
 }
 
-/// "An instruction is one of nine forms, each with its own fields; fields not listed are 0." Request 104 adds the fan.
+/// "An instruction is one of nine forms, each with its own fields; fields not listed are 0." Request 104 adds the fan,
+/// request 107 the sum.
 fn take_instruction(left: &mut Words) -> Result<Instruction, String> {
     match left.next() {
         "const" => {
@@ -197,6 +208,12 @@ fn take_instruction(left: &mut Words) -> Result<Instruction, String> {
         "wait" => {
             left.expect("entry")?;
             Ok([8, left.register()?, 0, 0])
+        }
+        "sum" => {
+            left.expect("entry")?;
+            let place = left.register()?;
+            left.expect("+")?;
+            Ok([10, place, left.register()?, 0])
         }
         "" => Err("the line ends where an instruction is wanted".to_string()),
         word => Err(format!("`{word}` is no instruction")),

@@ -49,6 +49,8 @@ fn every_instruction() {
         bytes_of("0: fan sheet 1 with footprint 0,16 children"),
         [9, 1, 0, 16]
     );
+    assert_eq!(bytes_of("sum entry R1 + R2"), [10, 1, 2, 0]);
+    assert_eq!(bytes_of("0: sum entry R3+R0"), [10, 3, 0, 0]);
 }
 
 #[test]
@@ -56,6 +58,38 @@ fn every_kind_of_line() {
     let text = "entries 3\nfootprint 0: read entry 0, write entry 1, read entry R2, write entry R3\nsheet 0:\n";
     let bytes = assemble(text).unwrap();
     assert_eq!(bytes[5..16], [0x4A, 0x46, 4, 0, 0, 1, 1, 2, 2, 3, 3]);
+    let text = "entries 3\nfootprint 0: sum entry 2, sum entry R3, read entry R0\nsheet 0:\n";
+    let bytes = assemble(text).unwrap();
+    assert_eq!(bytes[5..14], [0x4A, 0x46, 3, 4, 2, 5, 3, 2, 0]);
+}
+
+/// Request 107
+#[test]
+fn sums() {
+    assert_eq!(
+        of_line("sum entry R4 + R0"),
+        ["5: register R4: registers are R0 to R3"]
+    );
+    assert_eq!(
+        of_line("sum entry 1 + R0"),
+        ["5: register 1: registers are R0 to R3"]
+    );
+    assert_eq!(
+        of_line("sum entry R1 := R2"),
+        ["5: `:=` stands where `+` is wanted"]
+    );
+    assert_eq!(
+        of_line("sum R1 + R2"),
+        ["5: `R1` stands where `entry` is wanted"]
+    );
+    assert_eq!(
+        of_line("sum entry R1"),
+        ["5: the line ends where `+` is wanted"]
+    );
+    assert_eq!(
+        of_line("sum entry R1 + R2 + R3"),
+        ["5: `+` stands where the line ends"]
+    );
 }
 
 #[test]
@@ -197,12 +231,24 @@ fn footprints() {
         ["2: register R4: registers are R0 to R3"]
     );
     assert_eq!(
+        footprint("sum entry 2, read entry 0"),
+        ["2: entry 2: it is 0 to 1"]
+    );
+    assert_eq!(
+        footprint("sum entry R4"),
+        ["2: register R4: registers are R0 to R3"]
+    );
+    assert_eq!(
+        footprint("sum 0"),
+        ["2: `0` stands where `entry` is wanted"]
+    );
+    assert_eq!(
         footprint("take entry 0"),
-        ["2: `take` stands where `read` or `write` is wanted"]
+        ["2: `take` stands where `read`, `write` or `sum` is wanted"]
     );
     assert_eq!(
         footprint(""),
-        ["2: the line ends where `read`, `write` or `none` is wanted"]
+        ["2: the line ends where `read`, `write`, `sum` or `none` is wanted"]
     );
     assert_eq!(
         footprint("read entry 0 write entry 1"),

@@ -2,13 +2,14 @@
 
 use second::coordinator::{call, open_files};
 use second::list::Instruction;
-use second::run::{queue_of, Run, BEHIND_A_WRITER, NONE, OTHER_HOLD, READ, RECORDS, WRITE};
+use second::run::{queue_of, Run, BEHIND_A_WRITER, NONE, OTHER_HOLD, READ, RECORDS, SUM, WRITE};
 
-/// Who holds a call back, and at which entry.
+/// Who holds a call back, at which entry and by which mode there.
 #[derive(Clone, Copy, Debug, PartialEq, Eq)]
 pub struct Held {
     pub job: usize,
     pub entry: usize,
+    pub mode: u8,
 }
 
 /// One call: its words, the coordinator's answer, and the jobs' states behind it.
@@ -112,11 +113,12 @@ fn name(instruction: &Instruction) -> &'static str {
         Instruction::Spawn { .. } => "spawn",
         Instruction::Wait { .. } => "wait",
         Instruction::Fan { .. } => "fan",
+        Instruction::Sum { .. } => "sum",
     }
 }
 
-/// The first entry at which a job of mode write is ahead, and that job; where there is none, the first entry that the call
-/// needs to write and at which some job is ahead, and that job.
+/// The first entry at which a job of mode write is ahead, and that job; where there is none, the first entry at which a job
+/// is ahead whose mode doesn't go with what the call needs there, and that job.
 fn held_back(run: &Run, kind: u8, job: usize, instruction: Option<Instruction>) -> Option<Held> {
     if job >= RECORDS || !run.order.contains(&job) {
         return None;
@@ -129,8 +131,11 @@ fn held_back(run: &Run, kind: u8, job: usize, instruction: Option<Instruction>) 
     let writer = needs
         .iter()
         .find_map(|(entry, _)| first_ahead(run, job, *entry, |mode| mode == WRITE));
-    let mut written = needs.iter().filter(|(_, mode)| *mode == WRITE);
-    writer.or_else(|| written.find_map(|(entry, _)| first_ahead(run, job, *entry, |_| true)))
+    let mut others = needs.iter();
+    let holds = |need: u8, mode: u8| need == WRITE || mode != need;
+    writer.or_else(|| {
+        others.find_map(|(entry, need)| first_ahead(run, job, *entry, |mode| holds(*need, mode)))
+    })
 }
 
 fn start_needs(run: &Run, job: usize) -> Vec<(usize, u8)> {
@@ -144,10 +149,13 @@ fn start_needs(run: &Run, job: usize) -> Vec<(usize, u8)> {
 fn step_needs(run: &Run, job: usize, instruction: Instruction) -> Vec<(usize, u8)> {
     let record = &run.records[job];
     let entry_in = |register: u8| record.registers[register as usize] as usize;
+    // A wait and a sum need what the own mode allows.
     let need = match instruction {
         Instruction::Load { b, .. } => (entry_in(b), READ),
         Instruction::Store { a, .. } => (entry_in(a), WRITE),
-        Instruction::Wait { a } if entry_in(a) < run.list.locations => {
+        Instruction::Wait { a } | Instruction::Sum { a, .. }
+            if entry_in(a) < run.list.locations =>
+        {
             (entry_in(a), record.modes[entry_in(a)])
         }
         _ => return Vec::new(),
@@ -164,8 +172,19 @@ fn first_ahead(run: &Run, job: usize, entry: usize, such: impl Fn(u8) -> bool) -
     queue_of(run, entry)
         .into_iter()
         .take_while(|other| *other != job)
-        .find(|other| such(run.records[*other].modes[entry]))
-        .map(|job| Held { job, entry })
+        .map(|job| (job, run.records[job].modes[entry]))
+        .find(|(_, mode)| such(*mode))
+        .map(|(job, mode)| Held { job, entry, mode })
+}
+
+/// What a job of this mode does to the entry.
+pub fn verb(mode: u8) -> &'static str {
+    match mode {
+        READ => "reads",
+        WRITE => "writes",
+        SUM => "sums",
+        _ => "has no",
+    }
 }
 
 #[cfg(test)]
@@ -181,6 +200,10 @@ mod tests {
             .collect()
     }
 
+    fn held(job: usize, entry: usize, mode: u8) -> Held {
+        Held { job, entry, mode }
+    }
+
     macro_rules! example {
         ($name:literal) => {
             (
@@ -194,17 +217,14 @@ mod tests {
     #[test]
     fn the_copy_waits_for_the_job_that_sets() {
         let (jobs, library, calls) = example!("p");
-        assert_eq!(
-            held_in(jobs, library, calls),
-            [(4, 19, Held { job: 1, entry: 0 })]
-        );
+        assert_eq!(held_in(jobs, library, calls), [(4, 19, held(1, 0, WRITE))]);
     }
 
     #[test]
     fn the_store_waits_for_each_reader() {
         let (jobs, library, calls) = example!("readers");
-        let first = (9, 20, Held { job: 1, entry: 0 });
-        let second = (16, 20, Held { job: 2, entry: 0 });
+        let first = (9, 20, held(1, 0, READ));
+        let second = (16, 20, held(2, 0, READ));
         assert_eq!(held_in(jobs, library, calls), [first, second]);
     }
 
@@ -218,11 +238,57 @@ mod tests {
         assert_eq!(
             held_in(&jobs, &[0; 16], &calls),
             [
-                (8, 20, Held { job: 1, entry: 2 }),
-                (9, 19, Held { job: 2, entry: 1 }),
-                (10, 19, Held { job: 2, entry: 1 }),
+                (8, 20, held(1, 2, READ)),
+                (9, 19, held(2, 1, WRITE)),
+                (10, 19, held(2, 1, WRITE)),
             ]
         );
+    }
+
+    /// Sums go side by side; what holds a reader, a writer and a sum behind a reader is shown.
+    #[test]
+    fn sums_hold_others() {
+        let starts = [0, 0, 1, 0, 1, 0, 1, 0, 0, 3, 0, 2];
+        for (kinds, expected) in [
+            ([4, 4, 4], vec![]),
+            ([4, 4, 0], vec![(5, 20, held(1, 0, SUM))]),
+            (
+                [0, 4, 0],
+                vec![(5, 20, held(2, 0, SUM)), (6, 20, held(1, 0, READ))],
+            ),
+            (
+                [4, 1, 4],
+                vec![(5, 19, held(2, 0, WRITE)), (6, 20, held(1, 0, SUM))],
+            ),
+        ] {
+            let jobs = second::named::three_modes(kinds);
+            assert_eq!(held_in(&jobs, &[0; 4], &starts), expected, "{kinds:?}");
+        }
+        // The sum of a writer, behind the two that sum; its word is the instruction's.
+        let jobs = second::named::two_that_sum(second::named::sum(0, 1));
+        let calls = [0, 0, 1, 0, 1, 0, 1, 0, 1, 0, 1, 0];
+        assert_eq!(held_in(&jobs, &[0; 4], &calls), [(6, 20, held(1, 0, SUM))]);
+        let events = follow(&jobs, &[0; 4], &calls).unwrap().events;
+        assert_eq!(events[5].word, "sum");
+    }
+
+    /// Either job of the totals' example is held by no other that sums; the parent's loads wait for all of them.
+    #[test]
+    fn the_parent_waits_for_all_totals() {
+        let (jobs, library, calls) = example!("totals");
+        let holds = held_in(jobs, library, calls);
+        assert!(!holds.is_empty());
+        assert!(holds
+            .iter()
+            .all(|(_, answer, held)| (*answer, held.mode) == (20, SUM)));
+        let events = follow(jobs, library, calls).unwrap().events;
+        let sums: Vec<usize> = events
+            .iter()
+            .filter(|event| event.word == "sum" && event.answer == 0)
+            .map(|event| event.job)
+            .collect();
+        // The last job adds before the first.
+        assert!(sums.first() > sums.last());
     }
 
     #[test]

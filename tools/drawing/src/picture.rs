@@ -1,8 +1,8 @@
 //! The picture: bands of calls from left to right, a row for each job, and below them what was held back and the entries.
 
-use crate::history::{Event, History};
+use crate::history::{verb, Event, History};
 use crate::svg::{Anchor, Svg};
-use second::run::{BEHIND_A_WRITER, OTHER_HOLD};
+use second::run::{Record, BEHIND_A_WRITER, OTHER_HOLD, READ, SUM as MODE_SUM, WRITE};
 
 /// Calls to a band, and the sizes of its parts.
 const BAND: usize = 20;
@@ -35,6 +35,10 @@ const START: Look = Look {
 const STEP: Look = Look {
     cell: "fill=\"#8ecbf0\"",
     text: DARK,
+};
+const SUM: Look = Look {
+    cell: "fill=\"#6f4a8e\"",
+    text: WHITE,
 };
 const SPAWN: Look = Look {
     cell: "fill=\"#005b96\"",
@@ -143,13 +147,15 @@ fn draw_band(svg: &mut Svg, history: &History, first: usize, events: &[Event], y
 
 /// A job's name, and behind its cells when it waits and when it is started.
 fn draw_row(svg: &mut Svg, history: &History, first: usize, events: &[Event], job: usize, y: i64) {
-    svg.text(16, y + 15, 13, Anchor::Start, BOLD, &format!("job {job}"));
     let record = history.run.records.get(job);
-    let sheet = match record {
-        Some(record) if record.state != 0 => format!("sheet {}", record.body),
-        _ => "never made".to_string(),
+    let (sheet, footprint) = match record {
+        Some(record) if record.state != 0 => (format!("sheet {}", record.body), modes_of(record)),
+        _ => ("never made".to_string(), String::new()),
     };
+    svg.open(&format!("job {job}: {sheet}{footprint}"));
+    svg.text(16, y + 15, 13, Anchor::Start, BOLD, &format!("job {job}"));
     svg.text(16, y + 28, 10, Anchor::Start, GREY, &sheet);
+    svg.close();
     for (i, event) in events.iter().enumerate() {
         let before = match (first + i).checked_sub(1) {
             Some(before) => history.events[before].states.get(job).copied().unwrap_or(0),
@@ -163,6 +169,25 @@ fn draw_row(svg: &mut Svg, history: &History, first: usize, events: &[Event], jo
         };
         svg.rect(LEFT + i as i64 * PITCH - 2, y, PITCH, CELL_HEIGHT, style);
     }
+}
+
+/// A job's modes in words, as `; reads entries 0, 1; sums entry 4`.
+fn modes_of(record: &Record) -> String {
+    let mut words = String::new();
+    for mode in [READ, WRITE, MODE_SUM] {
+        let entries: Vec<usize> = (0..record.modes.len())
+            .filter(|entry| record.modes[*entry] == mode)
+            .collect();
+        let noun = if entries.len() == 1 {
+            "entry"
+        } else {
+            "entries"
+        };
+        if !entries.is_empty() {
+            words.push_str(&format!("; {} {noun} {}", verb(mode), listed(&entries)));
+        }
+    }
+    words
 }
 
 /// The line from a call that is held back to the job that holds it.
@@ -198,6 +223,7 @@ fn look_of(event: &Event) -> &'static Look {
             word: "spawn" | "fan",
             ..
         } => &SPAWN,
+        Event { word: "sum", .. } => &SUM,
         _ => &STEP,
     }
 }
@@ -230,8 +256,11 @@ fn said(number: usize, event: &Event) -> String {
         Event {
             held: Some(held), ..
         } => format!(
-            "{call} is held back ({}) by job {} at entry {}",
-            event.answer, held.job, held.entry
+            "{call} is held back ({}) by job {}, which {} entry {}",
+            event.answer,
+            held.job,
+            verb(held.mode),
+            held.entry
         ),
         Event { answer: 1.., .. } => format!("{call} is refused, {}", event.answer),
         Event { fault: 1.., .. } => format!("{call} faults, fault {}", event.fault),
@@ -249,10 +278,11 @@ fn listed(numbers: &[usize]) -> String {
     words.join(", ")
 }
 
-fn draw_legend(svg: &mut Svg, y: i64) -> i64 {
-    let marks: [(&str, &str); 10] = [
+fn draw_legend(svg: &mut Svg, mut y: i64) -> i64 {
+    let marks: [(&str, &str); 11] = [
         (START.cell, "start"),
         (STEP.cell, "step"),
+        (SUM.cell, "sum"),
         (SPAWN.cell, "spawn"),
         (END.cell, "end"),
         (FAULT.cell, "faulting step"),
@@ -264,9 +294,13 @@ fn draw_legend(svg: &mut Svg, y: i64) -> i64 {
     ];
     let mut x = 16;
     for (style, words) in marks {
+        let width = 42 + words.len() as i64 * 13 / 2;
+        if x + width > WIDTH {
+            (x, y) = (16, y + 24);
+        }
         svg.rect(x, y, 16, 16, &format!("rx=\"3\" {style}"));
         svg.text(x + 21, y + 12, 11, Anchor::Start, DARK, words);
-        x += 42 + words.len() as i64 * 13 / 2;
+        x += width;
     }
     y + 40
 }

@@ -40,6 +40,9 @@ enum-told-9 c = search needs
 enum-told-10 : tie.Need-enum-told-10
 enum-told-10 c = search needs
 
+enum-told-11 : tie.Need-enum-told-11
+enum-told-11 c = search needs
+
 returns : tie.Need-returns
 unfolding instruction-fields
 returns c =
@@ -90,6 +93,11 @@ unfolding instruction-fields
 returns-10 c =
     (sym (ap (λ i. getD (instruction-fields i) 0 0) (c .enum-told10 .given .1)), omega arith)
 
+returns-11 : tie.Need-returns-11
+unfolding instruction-fields
+returns-11 c =
+    (sym (ap (λ i. getD (instruction-fields i) 0 0) (c .enum-told11 .given .1)), omega arith)
+
 pub code-of-spec : {M : Type 1} → statement M
 code-of-spec =
     tie.close
@@ -104,6 +112,7 @@ code-of-spec =
     enum-told-8
     enum-told-9
     enum-told-10
+    enum-told-11
     returns
     returns-2
     returns-3
@@ -113,4 +122,5 @@ code-of-spec =
     returns-7
     returns-8
     returns-9
-    returns-10)
+    returns-10
+    returns-11)

@@ -40,6 +40,9 @@ enum-known-instruction c = search needs
 wide-requires : tie.Need-wide-requires
 wide-requires c κs = search needs
 
+enum-told-10 : tie.Need-enum-told-10
+enum-told-10 c = search needs
+
 returns : tie.Need-returns
 unfolding units
 returns c = (sym (ap units (c .enum-told .given .1)), omega arith)
@@ -80,6 +83,10 @@ returns-10 : tie.Need-returns-10
 unfolding units
 returns-10 c = (c .wide .ensures .0 ∙ sym (ap units (c .before .before .instruction .given .1)), c .wide .ensures .1)
 
+returns-11 : tie.Need-returns-11
+unfolding units
+returns-11 c = (sym (ap units (c .enum-told10 .given .1)), omega arith)
+
 pub units-of-spec : {M : Type 1} → statement M
 units-of-spec =
     tie.close
@@ -95,6 +102,7 @@ units-of-spec =
     enum-told-9
     enum-known-instruction
     wide-requires
+    enum-told-10
     returns
     returns-2
     returns-3
@@ -104,4 +112,5 @@ units-of-spec =
     returns-7
     returns-8
     returns-9
-    returns-10)
+    returns-10
+    returns-11)

@@ -75,7 +75,7 @@ module _ (list library table : List ℕ) (room : ℕ) where
 
         pub weight-refused : every is-weight weights ≡ false → hand-run-over-c list library table room ≡ denies 22
         unfolding final-entries with-weights weight-places
-        weight-refused bad = under ∙ rw (eq-eqb (length weights) 12 (table-length table whole), bad) refl
+        weight-refused bad = under ∙ rw (eq-eqb (length weights) 13 (table-length table whole), bad) refl
 
         module _ (good : every is-weight weights ≡ true) where
           -- the entries after the hand run
@@ -94,7 +94,7 @@ module _ (list library table : List ℕ) (room : ℕ) where
 
           through : hand-run-over-c list library table room ≡ final-entries room (gives (sequential (context l weights) (numbers-of library)))
           unfolding with-weights weight-places
-          through = under ∙ rw (eq-eqb (length weights) 12 (table-length table whole), good) refl
+          through = under ∙ rw (eq-eqb (length weights) 13 (table-length table whole), good) refl
 
           pub result-refused : room < 4 * l .locations → hand-run-over-c list library table room ≡ denies 17
           unfolding final-entries

@@ -11,7 +11,7 @@ use lib.Seq.{getD-take}
 use lib.Dec.{ltb}
 use borrow.Author.Tests.{eq-eqb, ne-eqb}
 use Rattle.tasklist.specs.declared.Instruction.{Instruction}
-use Rattle.tasklist.specs.declared.Instruction.the-variants.{Const, Add, Sub, Less, Load, Store, Skip, Spawn, Wait, Fan}
+use Rattle.tasklist.specs.declared.Instruction.the-variants.{Const, Add, Sub, Less, Load, Store, Skip, Spawn, Wait, Fan, Sum}
 use Rattle.tasklist.specs.TaskList.{footprint-of, instruction-of}
 use Rattle.tasklist.specs.Encode.{instruction-fields}
 use Rattle.tasklist.specs.Tables.{list-of}
@@ -19,8 +19,8 @@ use Rattle.semantics.specs.declared.CallRefusal.{CallRefusal}
 use Rattle.semantics.specs.Run.{Task, weight-of, mode-of, register, task-of}
 use Rattle.semantics.specs.Run as Semantics
 use Rattle.semantics.specs.Access.{Access, every, access-fault}
-use Rattle.semantics.specs.Effect.{Effect, Plan, own, faulted, assigned, passes, storing}
-use Rattle.semantics.specs.Plan.{step, wrap, unless-fault, plan-load, plan-store, plan-wait, passed-over, plan-make, plan-instruction, units, step-weight, at-end, plan-step, plan}
+use Rattle.semantics.specs.Effect.{Effect, Plan, go, own, faulted, assigned, passes, storing, adding}
+use Rattle.semantics.specs.Plan.{step, wrap, unless-fault, plan-load, plan-store, plan-wait, plan-sum, passed-over, plan-make, plan-instruction, units, step-weight, at-end, plan-step, plan}
 use Rattle.semantics.specs.Footprint.{children, first-register}
 use Rattle.semantics.specs.Call.{refuse, accept, admit, settle}
 use Rattle.semantics.specs.Sound.{In}
@@ -49,29 +49,29 @@ either (inl a) f g = f a
 either (inr b) f g = g b
 
 -- what comes of an access that has no fault, by what the tasks ahead do to it
-abbrev pub AccessBy : Parts → ℕ → ℕ → ℕ → ℕ → Hold → Type 0
-AccessBy run n place a asked h =
+abbrev pub AccessBy : Parts → ℕ → ℕ → ℕ → ℕ → ℕ → Hold → Type 0
+AccessBy run n place a tested asked h =
     SoundRun run → Placed run n place
-    → (fault-at run n a asked ≡ 0)
+    → (fault-at run n a tested ≡ 0)
     × (asked ≢ 0 → (e : Effect) → admit (model run) n (access a asked ∷ []) e ≡ outcome-by h e)
 
 -- What comes of an access.
 module _
-    (run : Parts) (n place a asked mode fault : ℕ) (look : length (run .modes) ≡ 8192 → mode ≡ getD (row n (run .modes)) a 0)
-    (by-mode : fault ≡ access-fault mode asked)
+    (run : Parts) (n place a tested asked mode fault : ℕ) (look : length (run .modes) ≡ 8192 → mode ≡ getD (row n (run .modes)) a 0)
+    (by-mode : fault ≡ access-fault mode tested)
   where
-    known : SoundRun run → fault-at run n a asked ≡ fault
+    known : SoundRun run → fault-at run n a tested ≡ fault
     known s =
-        ap (λ m. access-fault m asked) (sym (look (s .modes) ∙ mode-is run n a (s .records) (s .modes))) ∙ sym by-mode
+        ap (λ m. access-fault m tested) (sym (look (s .modes) ∙ mode-is run n a (s .records) (s .modes))) ∙ sym by-mode
 
-    pub access-faults : fault ≢ 0 → AccessAs run n place a asked (Found.Fault fault)
+    pub access-faults : fault ≢ 0 → AccessAs run n place a tested asked (Found.Fault fault)
     access-faults h = (h, known)
 
     pub access-looked :
         fault ≡ 0 → (w : Wanted) → (a < 64 → accesses-of w ≡ access a asked ∷ []) → (h : Hold)
         → (length (run .order) ≡ 128 → length (run .modes) ≡ 8192
         → h ≡ hold-ahead (run .modes) (take place (run .order)) (accesses-of w))
-        → (x : Hold) → h ≡ x → AccessBy run n place a asked x
+        → (x : Hold) → h ≡ x → AccessBy run n place a tested asked x
     access-looked none w one h searched x is s p = (
       granted,
       λ z e.
@@ -80,11 +80,11 @@ module _
           ∙ ap (λ y. outcome-by y e) is,
     )
       where
-        granted : fault-at run n a asked ≡ 0
+        granted : fault-at run n a tested ≡ 0
         granted = known s ∙ none
 
         queued : mode-of (task-of (model run) n) a ≡ 0 → ⊥
-        queued q = none-grants asked (subst (λ o. access-fault o asked ≡ 0) q granted)
+        queued q = none-grants tested (subst (λ o. access-fault o tested ≡ 0) q granted)
 
         near : a < 64
         near = sort (decLt a 64)
@@ -118,13 +118,26 @@ inside run n a asked s f = sort (decLt a (run .tables .locations))
         let beyond : mode-of (task-of (model run) n) a ≡ 0 =
         s .sound .tasks n .modes .beyond a (unfold list-of in omega arith) in
         let bad : _≡_ {A = ℕ} 1 0 =
-        own-other 0 asked (λ q. omega arith) (λ q. omega arith) ∙ ap (λ m. access-fault m asked) (sym beyond) ∙ f in
+        own-other 0 asked (λ q. omega arith) (λ q. omega arith) (λ q. omega arith) ∙ ap (λ m. access-fault m asked) (sym beyond) ∙ f in
         let z : ⊥ = omega arith in absurd z
 
--- The three that may wait, by what comes of their access.
+-- The four that may wait, by what comes of their access.
 module _ (run : Parts) (n place : ℕ) (below : n < 128) where
   named : SoundRun run → (x a : ℕ) → a ≡ getD (record-of run n .registers) x 0 → register (task-of (model run) n) x ≡ a
   named s x a q = ap (λ t. getD (t .registers) x 0) (own-task run s n below) ∙ sym q
+
+  -- the mode that was read is the task's own
+  own-mode :
+      SoundRun run → (a asked : ℕ) → (length (run .modes) ≡ 8192 → asked ≡ getD (row n (run .modes)) a 0)
+      → asked ≡ mode-of (task-of (model run) n) a
+  own-mode s a asked mode = mode (s .modes) ∙ mode-is run n a (s .records) (s .modes)
+
+  -- what the task's own mode allows is not nothing
+  asks-some :
+      SoundRun run → (a tested asked : ℕ) → (length (run .modes) ≡ 8192 → asked ≡ getD (row n (run .modes)) a 0)
+      → fault-at run n a tested ≡ 0 → asked ≢ 0
+  asks-some s a tested asked mode f z =
+      none-grants tested (subst (λ o. access-fault o tested ≡ 0) (sym (own-mode s a asked mode) ∙ z) f)
 
   module _ (target x a : ℕ) (at : a ≡ getD (record-of run n .registers) x 0) where
     load-at :
@@ -133,11 +146,11 @@ module _ (run : Parts) (n place : ℕ) (below : n < 128) where
     unfolding settled plan-instruction
     load-at s w = ap (λ l. settle (model run) n (plan-load w (task-of (model run) n) target l)) (named s x a at)
 
-    pub load-fault : (k : ℕ) → AccessAs run n place a 1 (Found.Fault k) → Plans run n place (Load target x) (Planned.Fault k)
+    pub load-fault : (k : ℕ) → AccessAs run n place a 1 1 (Found.Fault k) → Plans run n place (Load target x) (Planned.Fault k)
     unfolding plan-load planned
     load-fault k h = λ s p w. load-at s w ∙ settle-fault (model run) n w (task-of (model run) n) _ _ k (h .1 s) (h .0)
 
-    pub load-held : (k : CallRefusal) → AccessAs run n place a 1 (Found.Held k) → Plans run n place (Load target x) (Planned.Held k)
+    pub load-held : (k : CallRefusal) → AccessAs run n place a 1 1 (Found.Held k) → Plans run n place (Load target x) (Planned.Held k)
     unfolding plan-load planned settle
     load-held k h =
         λ s p w.
@@ -145,7 +158,7 @@ module _ (run : Parts) (n place : ℕ) (below : n < 128) where
         ∙ h s p .1 (λ q. omega arith) _
 
     pub load-free :
-        (v : ℕ) → v ≡ getD (run .memory) a 0 → AccessAs run n place a 1 Found.Free
+        (v : ℕ) → v ≡ getD (run .memory) a 0 → AccessAs run n place a 1 1 Found.Free
         → Plans run n place (Load target x) (Planned.Assign target v)
     unfolding plan-load planned settle model
     load-free v q h =
@@ -165,11 +178,11 @@ module _ (run : Parts) (n place : ℕ) (below : n < 128) where
         ap (λ l. settle (model run) n (plan-store w (task-of (model run) n) l (register (task-of (model run) n) source)))
         (named s to a at)
 
-    pub store-fault : (k : ℕ) → AccessAs run n place a 2 (Found.Fault k) → Plans run n place (Store to source) (Planned.Fault k)
+    pub store-fault : (k : ℕ) → AccessAs run n place a 2 2 (Found.Fault k) → Plans run n place (Store to source) (Planned.Fault k)
     unfolding plan-store planned
     store-fault k h = λ s p w. store-at s w ∙ settle-fault (model run) n w (task-of (model run) n) _ _ k (h .1 s) (h .0)
 
-    pub store-held : (k : CallRefusal) → AccessAs run n place a 2 (Found.Held k) → Plans run n place (Store to source) (Planned.Held k)
+    pub store-held : (k : CallRefusal) → AccessAs run n place a 2 2 (Found.Held k) → Plans run n place (Store to source) (Planned.Held k)
     unfolding plan-store planned settle
     store-held k h =
         λ s p w.
@@ -177,7 +190,7 @@ module _ (run : Parts) (n place : ℕ) (below : n < 128) where
         ∙ h s p .1 (λ q. omega arith) _
 
     pub store-free :
-        (v : ℕ) → v ≡ getD (record-of run n .registers) source 0 → AccessAs run n place a 2 Found.Free
+        (v : ℕ) → v ≡ getD (record-of run n .registers) source 0 → AccessAs run n place a 2 2 Found.Free
         → Plans run n place (Store to source) (Planned.Store a v)
     unfolding plan-store planned settle
     store-free v q h =
@@ -201,31 +214,63 @@ module _ (run : Parts) (n place : ℕ) (below : n < 128) where
           ∙ ap (λ m.
           settle (model run) n
           (unless-fault (fault-at run n a m) w (task-of (model run) n) (passes w (access a m ∷ []) (task-of (model run) n))))
-          (sym (mode (s .modes) ∙ mode-is run n a (s .records) (s .modes)))
+          (sym (own-mode s a asked mode))
 
-      -- what the task's own mode allows is not nothing
-      asks-some : SoundRun run → fault-at run n a asked ≡ 0 → asked ≢ 0
-      asks-some s f z =
-          none-grants asked
-          (subst (λ o. access-fault o asked ≡ 0) (sym (mode (s .modes) ∙ mode-is run n a (s .records) (s .modes)) ∙ z) f)
-
-      pub wait-fault : (k : ℕ) → AccessAs run n place a asked (Found.Fault k) → Plans run n place (Wait x) (Planned.Fault k)
+      pub wait-fault : (k : ℕ) → AccessAs run n place a asked asked (Found.Fault k) → Plans run n place (Wait x) (Planned.Fault k)
       unfolding planned
       wait-fault k h = λ s p w. wait-at s w ∙ settle-fault (model run) n w (task-of (model run) n) _ _ k (h .1 s) (h .0)
 
-      pub wait-held : (k : CallRefusal) → AccessAs run n place a asked (Found.Held k) → Plans run n place (Wait x) (Planned.Held k)
+      pub wait-held : (k : CallRefusal) → AccessAs run n place a asked asked (Found.Held k) → Plans run n place (Wait x) (Planned.Held k)
       unfolding planned settle
       wait-held k h =
           λ s p w.
           wait-at s w ∙ settle-none (model run) n w (task-of (model run) n) _ _ (h s p .0)
-          ∙ h s p .1 (asks-some s (h s p .0)) _
+          ∙ h s p .1 (asks-some s a asked asked mode (h s p .0)) _
 
-      pub wait-free : AccessAs run n place a asked Found.Free → Plans run n place (Wait x) (Planned.Pass 0)
+      pub wait-free : AccessAs run n place a asked asked Found.Free → Plans run n place (Wait x) (Planned.Pass 0)
       unfolding planned settle
       wait-free h =
           λ s p w.
           wait-at s w ∙ settle-none (model run) n w (task-of (model run) n) _ _ (h s p .0)
-          ∙ h s p .1 (asks-some s (h s p .0)) _
+          ∙ h s p .1 (asks-some s a asked asked mode (h s p .0)) _
+
+  module _
+      (to source a asked : ℕ) (at : a ≡ getD (record-of run n .registers) to 0)
+      (mode : length (run .modes) ≡ 8192 → asked ≡ getD (row n (run .modes)) a 0)
+    where
+      sum-at :
+          SoundRun run → (w : ℕ)
+          → settled run n w (Sum to source)
+          ≡ settle (model run) n
+          (unless-fault (fault-at run n a 3) w (task-of (model run) n)
+          (go (access a asked ∷ []) (adding w a (register (task-of (model run) n) source) (task-of (model run) n))))
+      unfolding settled plan-instruction plan-sum
+      sum-at s w =
+          let t = task-of (model run) n in
+          ap (λ l. settle (model run) n (plan-sum w t l (register t source))) (named s to a at)
+          ∙ ap (λ m. settle (model run) n (unless-fault (fault-at run n a 3) w t (go (access a m ∷ []) (adding w a (register t source) t))))
+          (sym (own-mode s a asked mode))
+
+      pub sum-fault : (k : ℕ) → AccessAs run n place a 3 asked (Found.Fault k) → Plans run n place (Sum to source) (Planned.Fault k)
+      unfolding planned
+      sum-fault k h = λ s p w. sum-at s w ∙ settle-fault (model run) n w (task-of (model run) n) _ _ k (h .1 s) (h .0)
+
+      pub sum-held : (k : CallRefusal) → AccessAs run n place a 3 asked (Found.Held k) → Plans run n place (Sum to source) (Planned.Held k)
+      unfolding planned settle
+      sum-held k h =
+          λ s p w.
+          sum-at s w ∙ settle-none (model run) n w (task-of (model run) n) _ _ (h s p .0)
+          ∙ h s p .1 (asks-some s a 3 asked mode (h s p .0)) _
+
+      pub sum-free :
+          (v : ℕ) → v ≡ getD (record-of run n .registers) source 0 → AccessAs run n place a 3 asked Found.Free
+          → Plans run n place (Sum to source) (Planned.Sum a v)
+      unfolding planned settle
+      sum-free v q h =
+          λ s p w.
+          sum-at s w ∙ settle-none (model run) n w (task-of (model run) n) _ _ (h s p .0)
+          ∙ h s p .1 (asks-some s a 3 asked mode (h s p .0)) _
+          ∙ ap (λ z. accept (adding w a z (task-of (model run) n))) (named s source v q)
 
 -- Those that never wait.
 module _ (rs : List ℕ) where
@@ -292,18 +337,19 @@ module _ (rs : List ℕ) where
 -- by the code
 pub free-code :
     (rs : List ℕ) (i : Instruction) (p : StepPlan) (code : ℕ) → code ≡ getD (instruction-fields i) 0 0 → code ≢ 4 → code ≢ 5
-    → code ≢ 8 → FreeAs rs i p → PlansFree rs i p
+    → code ≢ 8 → code ≢ 10 → FreeAs rs i p → PlansFree rs i p
 unfolding instruction-fields
-free-code rs (Const a v) p code q f g h r = r
-free-code rs (Add a x y) p code q f g h r = r
-free-code rs (Sub a x y) p code q f g h r = r
-free-code rs (Less a x y) p code q f g h r = r
-free-code rs (Load a x) p code q f g h r = absurd (f q)
-free-code rs (Store a x) p code q f g h r = absurd (g q)
-free-code rs (Skip a b) p code q f g h r = r
-free-code rs (Spawn s x) p code q f g h r = r
-free-code rs (Wait a) p code q f g h r = absurd (h q)
-free-code rs (Fan s x k) p code q f g h r = r
+free-code rs (Const a v) p code q f g h o r = r
+free-code rs (Add a x y) p code q f g h o r = r
+free-code rs (Sub a x y) p code q f g h o r = r
+free-code rs (Less a x y) p code q f g h o r = r
+free-code rs (Load a x) p code q f g h o r = absurd (f q)
+free-code rs (Store a x) p code q f g h o r = absurd (g q)
+free-code rs (Skip a b) p code q f g h o r = r
+free-code rs (Spawn s x) p code q f g h o r = r
+free-code rs (Wait a) p code q f g h o r = absurd (h q)
+free-code rs (Fan s x k) p code q f g h o r = r
+free-code rs (Sum a x) p code q f g h o r = absurd (o q)
 
 pub free-plans :
     (run : Parts) (n place : ℕ) (i : Instruction) (p : StepPlan) → n < 128 → PlansFree (record-of run n .registers) i p
@@ -324,6 +370,7 @@ waiting-code run n place (Skip a b) p code q f g h o r = absurd (g q)
 waiting-code run n place (Spawn s x) p code q f g h o r = absurd (h q)
 waiting-code run n place (Wait a) p code q f g h o r = r
 waiting-code run n place (Fan s x k) p code q f g h o r = absurd (o q)
+waiting-code run n place (Sum a x) p code q f g h o r = r
 
 -- What is decided of a step.
 module _ (run : Parts) (n : ℕ) (below : n < 128) (s : SoundRun run) (place : ℕ) (p : Placed run n place) where

@@ -4,12 +4,12 @@ use mathlib.Core.Path.{_≡_}
 use mathlib.Core.List.{List, [], _∷_}
 use mathlib.Core.Logic.{_≢_}
 use Rattle.tasklist.specs.declared.Instruction.{Instruction}
-use Rattle.tasklist.specs.declared.Instruction.the-variants.{Const, Add, Sub, Less, Load, Store, Skip, Spawn, Wait, Fan}
+use Rattle.tasklist.specs.declared.Instruction.the-variants.{Const, Add, Sub, Less, Load, Store, Skip, Spawn, Wait, Fan, Sum}
 use Rattle.tasklist.specs.TaskList.{footprint-of}
 use Rattle.tasklist.specs.Tables.{list-of}
 use Rattle.semantics.specs.Run.{mode-of, task-of}
 use Rattle.semantics.specs.Access.{access-fault}
-use Rattle.semantics.specs.Effect.{Effect, own, moved, faulted, assigned, storing}
+use Rattle.semantics.specs.Effect.{Effect, own, moved, faulted, assigned, storing, adding}
 use Rattle.semantics.specs.Footprint.{children, first-register}
 use Rattle.semantics.specs.Plan.{plan-instruction, plan-make}
 use Rattle.semantics.specs.Call.{Outcome, refuse, accept, admit, settle}
@@ -24,18 +24,18 @@ use Rattle.plans.specs.View.{Parts, model, context-of, SoundRun, Placed,
 
 -- the fault of task n's access
 abbrev pub fault-at : Parts → ℕ → ℕ → ℕ → ℕ
-fault-at run n a asked = access-fault (mode-of (task-of (model run) n) a) asked
+fault-at run n a tested = access-fault (mode-of (task-of (model run) n) a) tested
 
--- what comes of task n's access to a location
-abbrev pub AccessAs : Parts → ℕ → ℕ → ℕ → ℕ → Access → Type 0
-AccessAs run n place a asked (Found.Fault k) = (k ≢ 0) × (SoundRun run → fault-at run n a asked ≡ k)
-AccessAs run n place a asked (Found.Held k) =
+-- what comes of task n's access to a location: the fault by the mode tested, else by the mode asked of those ahead
+abbrev pub AccessAs : Parts → ℕ → ℕ → ℕ → ℕ → ℕ → Access → Type 0
+AccessAs run n place a tested asked (Found.Fault k) = (k ≢ 0) × (SoundRun run → fault-at run n a tested ≡ k)
+AccessAs run n place a tested asked (Found.Held k) =
     SoundRun run → Placed run n place
-    → (fault-at run n a asked ≡ 0)
+    → (fault-at run n a tested ≡ 0)
     × (asked ≢ 0 → (e : Effect) → admit (model run) n (access a asked ∷ []) e ≡ refuse (refusal-number k))
-AccessAs run n place a asked Found.Free =
+AccessAs run n place a tested asked Found.Free =
     SoundRun run → Placed run n place
-    → (fault-at run n a asked ≡ 0) × (asked ≢ 0 → (e : Effect) → admit (model run) n (access a asked ∷ []) e ≡ accept e)
+    → (fault-at run n a tested ≡ 0) × (asked ≢ 0 → (e : Effect) → admit (model run) n (access a asked ∷ []) e ≡ accept e)
 
 -- a run with this order and these modes: what a plan looks at beside the task's own record
 abbrev pub looking : List ℕ → List ℕ → Parts → Parts
@@ -53,8 +53,8 @@ looking order modes run =
     }
 
 -- the same by the order and the modes alone
-abbrev pub AccessIn : List ℕ → List ℕ → ℕ → ℕ → ℕ → ℕ → Access → Type 0
-AccessIn order modes n place a asked r = (run : Parts) → AccessAs (looking order modes run) n place a asked r
+abbrev pub AccessIn : List ℕ → List ℕ → ℕ → ℕ → ℕ → ℕ → ℕ → Access → Type 0
+AccessIn order modes n place a tested asked r = (run : Parts) → AccessAs (looking order modes run) n place a tested asked r
 
 -- what a plan says of task n under weight w
 unfoldable pub planned : Parts → ℕ → ℕ → StepPlan → Outcome
@@ -64,6 +64,7 @@ planned run n w (Planned.Assign a v) = accept (own w (assigned a v (task-of (mod
 planned run n w (Planned.Pass k) =
     accept (own w (moved (1 + k) (task-of (model run) n .registers) (task-of (model run) n)))
 planned run n w (Planned.Store a v) = accept (storing w a v (task-of (model run) n))
+planned run n w (Planned.Sum a v) = accept (adding w a v (task-of (model run) n))
 planned run n w (Planned.Make s f first k) =
     let t = task-of (model run) n in
     settle (model run) n
@@ -100,6 +101,7 @@ FreeAs rs (Skip a b) p = PlansFree rs (Skip a b) p
 FreeAs rs (Spawn s f) p = PlansFree rs (Spawn s f) p
 FreeAs rs (Wait a) p = Unit {0}
 FreeAs rs (Fan s f k) p = PlansFree rs (Fan s f k) p
+FreeAs rs (Sum a x) p = Unit {0}
 
 -- of those that may wait
 abbrev pub WaitAs : Parts → ℕ → ℕ → Instruction → StepPlan → Type 0
@@ -113,6 +115,7 @@ WaitAs run n place (Skip a b) p = Unit {0}
 WaitAs run n place (Spawn s f) p = Unit {0}
 WaitAs run n place (Wait a) p = Plans run n place (Wait a) p
 WaitAs run n place (Fan s f k) p = Unit {0}
+WaitAs run n place (Sum a x) p = Plans run n place (Sum a x) p
 
 abbrev pub WaitIn : List ℕ → List ℕ → List ℕ → List ℕ → ℕ → ℕ → Instruction → StepPlan → Type 0
 WaitIn order modes memory registers n place i p =

@@ -32,6 +32,11 @@ pub enum StepPlan {
         location: usize,
         value: u32,
     },
+    // One step on, with a value added to a location.
+    Sum {
+        location: usize,
+        value: u32,
+    },
     // One step on with so many tasks made, or the first fault of their footprints; `first` is R0 of the foremost.
     Make {
         body: u8,

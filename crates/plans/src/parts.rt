@@ -5,7 +5,7 @@ ghost use mathlib.Core.List.{List};
 ghost use mathlib.Core.Bool.{cond};
 ghost use lib.ListN.{getD};
 ghost use lib.Dec.{ltb};
-ghost use Rattle.tasklist.specs.declared.Instruction.the-variants.{Load, Store, Wait};
+ghost use Rattle.tasklist.specs.declared.Instruction.the-variants.{Load, Store, Wait, Sum};
 ghost use Rattle.tasklist.specs.Encode.{instruction-fields};
 ghost use Rattle.semantics.specs.Plan.{passed-over, units};
 ghost use Rattle.plans.specs.Steps.{AccessIn, PlansIn, FreeAs, WaitIn};
@@ -20,19 +20,20 @@ use records::value_at;
 use semantics::CallRefusal;
 use tasklist::Instruction;
 
-// What comes of an access: its fault, else what the tasks ahead do to it.
+// What comes of an access: its fault by the mode tested, else what the tasks ahead do to it in the mode asked for.
 fn access_of<'a>(
     order: &'a [u8; 128],
     modes: &'a [u8; 8192],
     task: usize,
     place: usize,
     location: usize,
+    tested: u8,
     asked: u8,
 ) -> Access
-    ensures { λ r. ⌜ AccessIn (now (order .entry)) (now (modes .entry)) task place location asked r ⌝ }
+    ensures { λ r. ⌜ AccessIn (now (order .entry)) (now (modes .entry)) task place location tested asked r ⌝ }
 {
     let own = arrays::mode_at(modes, task, location);
-    let fault = grants::access_fault(own, asked);
+    let fault = grants::access_fault(own, tested);
     if fault != 0 {
         return Access::Fault { fault };
     }
@@ -65,7 +66,7 @@ fn load_plan<'a>(
     ensures { λ r. ⌜ PlansIn (now (order .entry)) (now (modes .entry)) memory registers task place (Load target from) r ⌝ }
 {
     let location = grants::register_at(registers, from) as usize;
-    let found = access_of(order, modes, task, place, location, 1);
+    let found = access_of(order, modes, task, place, location, 1, 1);
     match found {
         Access::Fault { fault } => StepPlan::Fault { fault },
         Access::Held { refusal } => StepPlan::Held { refusal },
@@ -90,7 +91,7 @@ fn store_plan<'a>(
     ensures { λ r. ⌜ ((m : List ℕ) → PlansIn (now (order .entry)) (now (modes .entry)) m registers task place (Store to source) r) ⌝ }
 {
     let location = grants::register_at(registers, to) as usize;
-    let found = access_of(order, modes, task, place, location, 2);
+    let found = access_of(order, modes, task, place, location, 2, 2);
     match found {
         Access::Fault { fault } => StepPlan::Fault { fault },
         Access::Held { refusal } => StepPlan::Held { refusal },
@@ -115,11 +116,38 @@ fn wait_plan<'a>(
 {
     let location = grants::register_at(registers, at) as usize;
     let asked = arrays::mode_at(modes, task, location);
-    let found = access_of(order, modes, task, place, location, asked);
+    let found = access_of(order, modes, task, place, location, asked, asked);
     match found {
         Access::Fault { fault } => StepPlan::Fault { fault },
         Access::Held { refusal } => StepPlan::Held { refusal },
         Access::Free => StepPlan::Pass { over: 0 },
+    }
+}
+
+// Request 107: "A job of mode 3 may sum .. when all ahead have mode 3; a writer sums only when none is ahead". Each asks in its
+// own mode.
+fn sum_plan<'a>(
+    order: &'a [u8; 128],
+    modes: &'a [u8; 8192],
+    registers: [u32; 4],
+    task: usize,
+    place: usize,
+    to: u8,
+    source: u8,
+) -> StepPlan
+    requires { ⌜ task < 128 ⌝ }
+    ensures { λ r. ⌜ ((m : List ℕ) → PlansIn (now (order .entry)) (now (modes .entry)) m registers task place (Sum to source) r) ⌝ }
+{
+    let location = grants::register_at(registers, to) as usize;
+    let asked = arrays::mode_at(modes, task, location);
+    let found = access_of(order, modes, task, place, location, 3, asked);
+    match found {
+        Access::Fault { fault } => StepPlan::Fault { fault },
+        Access::Held { refusal } => StepPlan::Held { refusal },
+        Access::Free => StepPlan::Sum {
+            location,
+            value: grants::register_at(registers, source),
+        },
     }
 }
 
@@ -202,10 +230,14 @@ fn free_plan(registers: [u32; 4], instruction: Instruction) -> StepPlan
             source: _,
         } => StepPlan::Pass { over: 0 },
         Instruction::Wait { place: _ } => StepPlan::Pass { over: 0 },
+        Instruction::Sum {
+            place: _,
+            source: _,
+        } => StepPlan::Pass { over: 0 },
     }
 }
 
-// Load, store and wait. The others are not asked of here.
+// Load, store, wait and sum. The others are not asked of here.
 fn waiting_plan<'a>(
     order: &'a [u8; 128],
     modes: &'a [u8; 8192],
@@ -227,6 +259,9 @@ fn waiting_plan<'a>(
             store_plan(order, modes, registers, task, place, to, source)
         }
         Instruction::Wait { place: at } => wait_plan(order, modes, registers, task, place, at),
+        Instruction::Sum { place: to, source } => {
+            sum_plan(order, modes, registers, task, place, to, source)
+        }
         Instruction::Const {
             target: _,
             value: _,

@@ -6,18 +6,18 @@ use mathlib.Core.Bool.{Bool, true, false, false≢true}
 use mathlib.Core.Logic.{_≢_}
 use native.Mathlib.Omega.{arith}
 use native.Mathlib.Decide.{decLt}
-use lib.ListN.{take, set, length-take, length-set}
-use lib.Seq.{set-out, take-set-lt, take-set-le}
+use lib.ListN.{length, take, set, getD, length-take, length-set}
+use lib.Seq.{getD-take, set-out, take-set-lt, take-set-le}
 use Rattle.tasklist.specs.TaskList.{footprint-of}
 use Rattle.tasklist.specs.Tables.{list-of}
 use Rattle.semantics.specs.declared.Record.{Record}
 use Rattle.semantics.specs.declared.Answer.the-variants as Answers
 use Rattle.semantics.specs.Run.{Task, task-of}
 use Rattle.semantics.specs.Access.{every}
-use Rattle.semantics.specs.Effect.{Effect, moved, faulted, assigned, storing}
+use Rattle.semantics.specs.Effect.{Edit, keep, put, add, Effect, moved, faulted, assigned}
 use Rattle.semantics.specs.Footprint.{Children, none-made, all-made, children, first-register}
 use Rattle.semantics.specs.Plan.{step, plan-make}
-use Rattle.semantics.specs.Call.{Outcome, refuse, accept, admit, settle, edited, charged, written, splice, stays, places, changes, apply}
+use Rattle.semantics.specs.Call.{Outcome, refuse, accept, admit, settle, sum-of, edited, charged, written, splice, stays, places, changes, apply}
 use Rattle.semantics.specs.Answers.{task-from}
 use Rattle.arrays.specs.Rows.{row}
 use Rattle.tables.specs.Children.{seen-from}
@@ -53,9 +53,13 @@ with-memory memory run =
       weights = run .weights;
     }
 
--- the run with another number at a location
-abbrev pub putting : ℕ → ℕ → Parts → Parts
-putting a v run = with-memory (set (run .memory) a v) run
+-- the run with its memory edited
+abbrev pub editing : Edit → Parts → Parts
+editing x run = with-memory (edited x (run .memory)) run
+
+-- one step on, with an edit of the memory
+abbrev pub edit-effect : ℕ → Edit → Task → Effect
+edit-effect w x t = record { task = moved 1 (t .registers) t; edit = x; made = []; leaves = false; weight = w }
 
 -- A task with a record and a row more.
 tasks-other :
@@ -89,6 +93,25 @@ take-set n l i a = sort (decLt i n)
     sort : Dec (i < n) → take n (set l i a) ≡ set (take n l) i a
     sort (yes h) = take-set-lt n l i a h
     sort (no h) = take-set-le n l i a (omega arith) ∙ sym (set-out (take n l) i a (omega (arith, length-take n l)))
+
+-- the locations of a list, edited
+take-edited : (n : ℕ) (x : Edit) (l : List ℕ) → take n (edited x l) ≡ edited x (take n l)
+unfolding edited
+take-edited n keep l = refl
+take-edited n (put a v) l = take-set n l a v
+take-edited n (add a v) l = sort (decLt a n)
+  where
+    sort : Dec (a < n) → take n (set l a (sum-of (getD l a 0) v)) ≡ set (take n l) a (sum-of (getD (take n l) a 0) v)
+    sort (yes h) = take-set n l a (sum-of (getD l a 0) v) ∙ ap (λ z. set (take n l) a (sum-of z v)) (sym (getD-take n l a 0 h))
+    sort (no h) =
+        take-set-le n l a (sum-of (getD l a 0) v) (omega arith)
+        ∙ sym (set-out (take n l) a (sum-of (getD (take n l) a 0) v) (omega (arith, length-take n l)))
+
+edited-length : (x : Edit) (l : List ℕ) → length (edited x l) ≡ length l
+unfolding edited
+edited-length keep l = refl
+edited-length (put a v) l = length-set l a v
+edited-length (add a v) l = length-set l a (sum-of (getD l a 0) v)
 
 abbrev effect-in : Effect → Outcome → Effect
 effect-in d (refuse k) = d
@@ -239,39 +262,41 @@ module _ (run : Parts) (n place w : ℕ) (below : n < 128) where
     unfolding model apply changes written
     stepped-tasks = ap (λ m. m .tasks) stepped-model
 
-    stored-memory :
-        (a v : ℕ) → model (putting a v (onward n (passed 0 (record-of run n)) w run)) .memory ≡ apply n (storing w a v (task-of (model run) n)) (model run) .memory
-    unfolding model applied apply edited
-    stored-memory a v = take-set (run .tables .locations) (run .memory) a v
+    edited-memory :
+        (x : Edit) → model (editing x (onward n (passed 0 (record-of run n)) w run)) .memory ≡ apply n (edit-effect w x (task-of (model run) n)) (model run) .memory
+    unfolding model applied apply
+    edited-memory x = take-edited (run .tables .locations) x (run .memory)
 
-    stored-model :
-        (a v : ℕ)
-        → model (putting a v (onward n (passed 0 (record-of run n)) w run)) ≡ apply n (storing w a v (task-of (model run) n)) (model run)
-    stored-model a v =
-        same-run (model (putting a v (onward n (passed 0 (record-of run n)) w run))) (apply n (storing w a v (task-of (model run) n)) (model run))
-        (stored-memory a v)
+    edited-model :
+        (x : Edit)
+        → model (editing x (onward n (passed 0 (record-of run n)) w run)) ≡ apply n (edit-effect w x (task-of (model run) n)) (model run)
+    edited-model x =
+        same-run (model (editing x (onward n (passed 0 (record-of run n)) w run))) (apply n (edit-effect w x (task-of (model run) n)) (model run))
+        (edited-memory x)
         (unfold model apply changes in ap (λ m. m .tasks) stepped-model)
         (unfold model apply places in ap (λ m. m .order) stepped-model)
         (unfold model apply in ap (λ m. m .calls) stepped-model)
         (unfold model apply in ap (λ m. m .weight) stepped-model)
 
-  pub store-carried :
-      (a v : ℕ) → Carries n place w (Planned.Store a v) run (putting a v (onward n (passed 0 (record-of run n)) w run))
-  store-carried a v =
+  -- a plan that edits the memory: a store, a sum
+  pub edit-carried :
+      (p : StepPlan) (x : Edit) → planned run n w p ≡ accept (edit-effect w x (task-of (model run) n))
+      → Carries n place w p run (editing x (onward n (passed 0 (record-of run n)) w run))
+  edit-carried p x is =
       record {
         list = unfold applied in refl;
         weights = unfold applied in refl;
         effect = λ s q light e h d. (
-          stored-model s light a v ∙ ap (λ x. apply n x (model run)) (same-effect (storing w a v (task-of (model run) n)) e (unfold planned in h)),
+          edited-model s light x ∙ ap (λ y. apply n y (model run)) (same-effect (edit-effect w x (task-of (model run) n)) e (sym is ∙ h)),
           whole s light,
         );
       }
     where
-      whole : SoundRun run → w < 2 ^ 24 → WholeRun (putting a v (onward n (passed 0 (record-of run n)) w run))
+      whole : SoundRun run → w < 2 ^ 24 → WholeRun (editing x (onward n (passed 0 (record-of run n)) w run))
       whole s light =
           let h = onward-whole run n below s (passed 0 (record-of run n)) w refl light in
           record {
-            memory = length-set (onward n (passed 0 (record-of run n)) w run .memory) a v ∙ h .memory;
+            memory = edited-length x (onward n (passed 0 (record-of run n)) w run .memory) ∙ h .memory;
             records = h .records;
             modes = h .modes;
             order = h .order;
@@ -284,6 +309,7 @@ holds-back (Planned.Fault k) = false
 holds-back (Planned.Assign a v) = false
 holds-back (Planned.Pass k) = false
 holds-back (Planned.Store a v) = false
+holds-back (Planned.Sum a v) = false
 holds-back (Planned.Make s f first k) = false
 
 -- the effect of a plan that is not held back
@@ -298,6 +324,7 @@ module _ (run : Parts) (n w : ℕ) where
   accepted-plan (Planned.Assign a v) h = refl
   accepted-plan (Planned.Pass k) h = refl
   accepted-plan (Planned.Store a v) h = refl
+  accepted-plan (Planned.Sum a v) h = refl
   accepted-plan (Planned.Make s f first k) h =
       sort (children s (footprint-of (list-of (run .tables)) f) (seen-from 0 k (first-register first (task-of (model run) n))))
     where

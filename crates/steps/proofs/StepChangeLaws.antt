@@ -2,6 +2,7 @@
 use Prim.Native.Nat.{ℕ, _+_, _*_, _^_, _<_}
 use mathlib.Core.Path.{_≡_, refl, sym, ap, subst, _∙_}
 use mathlib.Core.List.{List}
+use mathlib.Core.Bool.{false}
 use lib.ListN.{length, getD, set}
 use native.Mathlib.Omega.{arith}
 use native.Mathlib.Nat.{mul-le-mul}
@@ -12,12 +13,14 @@ use Rattle.tasklist.specs.TaskList.{body-of, instruction-of}
 use Rattle.tasklist.specs.Tables.{list-of}
 use Rattle.semantics.specs.declared.Record.{Record}
 use Rattle.semantics.specs.declared.CallRefusal.{CallRefusal}
-use Rattle.semantics.specs.Run.{weight-of}
+use Rattle.semantics.specs.Run.{weight-of, task-of}
+use Rattle.semantics.specs.Effect.{Edit, put, add}
 use Rattle.semantics.specs.Plan.{step, units}
+use Rattle.semantics.specs.Call.{accept, edited}
 use Rattle.records.specs.Records.{passed, failed, holding}
 use Rattle.plans.specs.declared.StepPlan.{StepPlan}
 use Rattle.plans.specs.declared.StepPlan.the-variants as Planned
-use Rattle.plans.specs.View.{Parts, SoundRun, Placed, record-of}
+use Rattle.plans.specs.View.{Parts, model, SoundRun, Placed, record-of}
 use Rattle.plans.specs.Calls.{decided}
 use Rattle.plans.specs.Steps.{planned, PlansIn}
 use Rattle.looks.specs.declared.Located.the-variants.{Refused, At}
@@ -27,7 +30,8 @@ use Rattle.changes.specs.Changes.{kept, counted}
 use Rattle.steps.specs.Stepping.{SpawnedBy, SteppedBy}
 use Rattle.plans.proofs.StepLaws.{step-settled}
 use Rattle.looks.proofs.LookLaws.{ends}
-use Rattle.steps.proofs.TakenLaws.{step-refused, step-held, step-fault, step-assign, step-pass, step-store, step-spawn, none-fits}
+use Rattle.steps.proofs.CarryLaws.{holds-back, edit-effect}
+use Rattle.steps.proofs.TakenLaws.{step-refused, step-held, step-fault, step-assign, step-pass, step-edit, step-spawn, none-fits}
 
 -- what an instruction weighs
 weighs-little : (number count : ℕ) → number < 65536 → count < 256 → count * number < 2 ^ 24
@@ -126,15 +130,30 @@ module _ (tables : Tables) (memory modes order : List ℕ) (left : ℕ) (own : R
           (e ∙ ap (λ x. counted x left w) f),
     )
 
+    -- the memory edited, as a store or a sum does it
+    change-edit :
+        (x : Edit) (y : StepPlan)
+        → ((run : Parts) → planned run n w y ≡ accept (edit-effect w x (task-of (model run) n))) → holds-back y ≡ false → p ≡ y
+        → (t : Record) → t ≡ passed 0 own → (m : List ℕ) → (length memory ≡ 64 → m ≡ edited x memory) → (c : Change)
+        → c ≡ counted t left w → Stepped m modes order c
+    change-edit x y is free q t f m g c e = (
+      none-fits c (ap (λ (z : Change). z .children) e),
+      λ run same table.
+          step-edit (from run) n own same place w (b .light) (b .below) y x (is (from run)) free m g (decides-as y q run same table) c
+          (e ∙ ap (λ z. counted z left w) f),
+    )
+
     pub change-store :
         (a v : ℕ) → p ≡ Planned.Store a v → (t : Record) → t ≡ passed 0 own → (m : List ℕ) → (length memory ≡ 64 → m ≡ set memory a v) → (c : Change)
         → c ≡ counted t left w → Stepped m modes order c
-    change-store a v q t f m g c e = (
-      none-fits c (ap (λ (x : Change). x .children) e),
-      λ run same table.
-          step-store (from run) n own same place w (b .light) (b .below) a v m g (decides-as (Planned.Store a v) q run same table) c
-          (e ∙ ap (λ x. counted x left w) f),
-    )
+    unfolding planned edited
+    change-store a v = change-edit (put a v) (Planned.Store a v) (λ run. refl) refl
+
+    pub change-sum :
+        (a v : ℕ) → p ≡ Planned.Sum a v → (t : Record) → t ≡ passed 0 own → (m : List ℕ) → (length memory ≡ 64 → m ≡ edited (add a v) memory) → (c : Change)
+        → c ≡ counted t left w → Stepped m modes order c
+    unfolding planned
+    change-sum a v = change-edit (add a v) (Planned.Sum a v) (λ run. refl) refl
 
     pub change-spawn :
         (s f first k : ℕ) → p ≡ Planned.Make s f first k → (modes′ order′ : List ℕ) (c : Change)

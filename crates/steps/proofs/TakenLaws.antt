@@ -4,12 +4,14 @@ use mathlib.Core.Path.{_≡_, refl, sym, ap, subst, _∙_}
 use mathlib.Core.List.{List, []}
 use mathlib.Core.Bool.{false}
 use native.Mathlib.Omega.{arith}
-use lib.ListN.{length, set}
+use lib.ListN.{length}
 use Rattle.semantics.specs.declared.Record.{Record}
 use Rattle.semantics.specs.declared.CallRefusal.{CallRefusal}
 use Rattle.semantics.specs.declared.Answer.the-variants as Answers
 use Rattle.semantics.specs.Plan.{step}
-use Rattle.semantics.specs.Call.{refuse, apply}
+use Rattle.semantics.specs.Run.{task-of}
+use Rattle.semantics.specs.Effect.{Edit}
+use Rattle.semantics.specs.Call.{refuse, accept, edited, apply}
 use Rattle.semantics.specs.Sequential.{made-by}
 use Rattle.semantics.specs.Answers.{refusal-number}
 use Rattle.tables.specs.Children.{numbers}
@@ -25,7 +27,7 @@ use Rattle.changes.specs.Changes.{WholeRun, kept, counted, put, ChangeOf}
 use Rattle.steps.specs.Stepping.{Carries, with-children, with-made, Makes, Fits}
 use Rattle.changes.proofs.ChangeLaws.{change-refused}
 use Rattle.changes.proofs.CallLaws.{applied}
-use Rattle.steps.proofs.CarryLaws.{holds-back, step-taken, fault-carried, assign-carried, pass-carried, store-carried}
+use Rattle.steps.proofs.CarryLaws.{holds-back, step-taken, fault-carried, assign-carried, pass-carried, edit-effect, edit-carried}
 
 -- A step: what it leaves, and the tasks that it makes.
 abbrev pub StepOf : Parts → Parts → ℕ → Change → Type 0
@@ -94,17 +96,19 @@ module _ (run : Parts) (n : ℕ) (t : Record) (same : record-of run n ≡ t) whe
         step-own place w light below (Planned.Pass k) there run refl refl (passed k t)
         (subst (carried (Planned.Pass k) run (passed k)) same (pass-carried run n place w below k small)) c e
 
-    pub step-store :
-        (a v : ℕ) (m : List ℕ) → (length (run .memory) ≡ 64 → m ≡ set (run .memory) a v) → Decided (Planned.Store a v) → (c : Change)
+    -- a store or a sum, which leaves the memory m
+    pub step-edit :
+        (p : StepPlan) (x : Edit) → planned run n w p ≡ accept (edit-effect w x (task-of (model run) n)) → holds-back p ≡ false
+        → (m : List ℕ) → (length (run .memory) ≡ 64 → m ≡ edited x (run .memory)) → Decided p → (c : Change)
         → c ≡ counted (passed 0 t) (run .left) w
         → StepOf run (with-parts (run .tables) m (run .modes) (run .order) (run .left) run) n c
-    unfolding applied planned
-    step-store a v m q there c e =
-        step-own place w light below (Planned.Store a v) there (left-as m) refl refl (passed 0 t)
+    unfolding applied
+    step-edit p x is free m q there c e =
+        step-own place w light below p there (left-as m) free (ap made-by is) (passed 0 t)
         (record {
           list = refl;
           weights = refl;
-          effect = λ s p l x h d. subst (λ k. (model (after k) ≡ apply n x (model run)) × WholeRun (after k)) (sym (q (s .memory))) (stored .effect s p l x h d);
+          effect = λ s at l y h d. subst (λ k. (model (after k) ≡ apply n y (model run)) × WholeRun (after k)) (sym (q (s .memory))) (left .effect s at l y h d);
         }) c e
       where
         left-as : List ℕ → Parts
@@ -113,8 +117,8 @@ module _ (run : Parts) (n : ℕ) (t : Record) (same : record-of run n ≡ t) whe
         after : List ℕ → Parts
         after k = put n (counted (passed 0 t) (run .left) w) (left-as k)
 
-        stored : Carries n place w (Planned.Store a v) run (after (set (run .memory) a v))
-        stored = subst (carried (Planned.Store a v) (left-as (set (run .memory) a v)) (passed 0)) same (store-carried run n place w below a v)
+        left : Carries n place w p run (after (edited x (run .memory)))
+        left = subst (carried p (left-as (edited x (run .memory))) (passed 0)) same (edit-carried run n place w below p x is)
 
     -- tasks made, by what is promised of them
     pub step-spawn :

@@ -14,6 +14,7 @@ use records::failed;
 use records::holding;
 use records::passed;
 use records::store;
+use records::sum;
 use records::units_of;
 use semantics::Record;
 use tasklist::Tables;
@@ -27,7 +28,7 @@ pub fn step_change(
     left: usize,
     own: Record,
     task: u32,
-    weights: [u16; 12],
+    weights: [u16; 13],
 ) -> Change
     ensures { λ r. ⌜ SteppedBy tables (now (memory .entry)) (now (modes .entry)) (now (order .entry)) (now (memory .exit)) (now (modes .exit)) (now (order .exit)) left own task weights r ⌝ }
 {
@@ -74,6 +75,11 @@ pub fn step_change(
                 StepPlan::Store { location, value } => {
                     let next = passed(own, 0);
                     store(memory, location, value);
+                    changed(next, left, weight)
+                }
+                StepPlan::Sum { location, value } => {
+                    let next = passed(own, 0);
+                    sum(memory, location, value);
                     changed(next, left, weight)
                 }
                 StepPlan::Make {

@@ -17,7 +17,7 @@ use Rattle.plans.proofs.parts.access_of.Tie as tie
 looked :
     (c : tie.After-search-ahead) (x : Hold) → c .search-ahead .result .hold ≡ x → (run : Parts)
     → let a = c .before .before .before .before .before .args in
-    AccessBy (looking (now (a .order)) (now (a .modes)) run) (a .task) (a .place) (a .location) (a .asked) x
+    AccessBy (looking (now (a .order)) (now (a .modes)) run) (a .task) (a .place) (a .location) (a .tested) (a .asked) x
 unfolding searched-ahead
 looked c x is run =
     let own = c .before .before .before .before .mode-at in
@@ -25,7 +25,7 @@ looked c x is run =
     let wanted = c .before .wanted-at in
     let searched = c .search-ahead in
     let a = c .before .before .before .before .before .args in
-    access-looked (looking (now (a .order)) (now (a .modes)) run) (a .task) (a .place) (a .location) (a .asked) (own .result) (fault .result) (own .ensures) (fault .ensures)
+    access-looked (looking (now (a .order)) (now (a .modes)) run) (a .task) (a .place) (a .location) (a .tested) (a .asked) (own .result) (fault .result) (own .ensures) (fault .ensures)
     (c .before .before .if1 .left) (wanted .result) (wanted .ensures) (searched .result .hold)
     (λ order modes. ap (λ y. y .hold) (searched .ensures order modes)) x is
 
@@ -39,7 +39,7 @@ returns : tie.Need-returns
 returns c =
     let a = c .before .before .before .args in
     λ run.
-    access-faults (looking (now (a .order)) (now (a .modes)) run) (a .task) (a .place) (a .location) (a .asked) (c .before .before .mode-at .result) (c .before .access-fault .result)
+    access-faults (looking (now (a .order)) (now (a .modes)) run) (a .task) (a .place) (a .location) (a .tested) (a .asked) (c .before .before .mode-at .result) (c .before .access-fault .result)
     (c .before .before .mode-at .ensures) (c .before .access-fault .ensures) (c .if1 .taken)
 
 wanted-at-requires : tie.Need-wanted-at-requires

@@ -85,6 +85,9 @@ enum-told-2 c = search needs
 enum-told-3 : tie.Need-enum-told-3
 enum-told-3 c = search needs
 
+enum-told-4 : tie.Need-enum-told-4
+enum-told-4 c = search needs
+
 returns : tie.Need-returns
 returns c =
     subst (λ i. FreeAs (c .before .before .before .before .args .registers) i (Assign (c .before .before .instruction .given .0 .0) (c .constant .result))) (sym (c .before .before .instruction .given .1)) (const-free (c .before .before .before .before .args .registers) (c .before .before .instruction .given .0 .0) (c .before .before .instruction .given .0 .1 .0) (c .constant .result) (c .constant .ensures))
@@ -130,6 +133,10 @@ returns-10 : tie.Need-returns-10
 returns-10 c =
     subst (λ i. FreeAs (c .before .before .args .registers) i (Pass 0)) (sym (c .enum-told3 .given .1)) tt
 
+returns-11 : tie.Need-returns-11
+returns-11 c =
+    subst (λ i. FreeAs (c .before .before .args .registers) i (Pass 0)) (sym (c .enum-told4 .given .1)) tt
+
 pub free-plan-spec : {M : Type 1} → statement M
 free-plan-spec =
     tie.close
@@ -157,6 +164,7 @@ free-plan-spec =
     enum-told
     enum-told-2
     enum-told-3
+    enum-told-4
     returns
     returns-2
     returns-3
@@ -166,4 +174,5 @@ free-plan-spec =
     returns-7
     returns-8
     returns-9
-    returns-10)
+    returns-10
+    returns-11)

@@ -42,7 +42,7 @@ returns c =
     λ run m e.
     let it = looking (now (a .order)) (now (a .modes)) run in
     load-fault it (a .task) (a .place) (c .before .before .before .before .before .pre) (a .target) (a .from) (at .result) (at .ensures ∙ ap (λ rs. getD rs (a .from) 0) (sym e)) (c .before .found .given .0 .0)
-    (subst (AccessAs it (a .task) (a .place) (at .result) 1) (c .before .found .given .1) (c .before .before .before .access-of .ensures run))
+    (subst (AccessAs it (a .task) (a .place) (at .result) 1 1) (c .before .found .given .1) (c .before .before .before .access-of .ensures run))
 
 returns-2 : tie.Need-returns-2
 returns-2 c =
@@ -51,7 +51,7 @@ returns-2 c =
     λ run m e.
     let it = looking (now (a .order)) (now (a .modes)) run in
     load-held it (a .task) (a .place) (c .before .before .before .before .before .pre) (a .target) (a .from) (at .result) (at .ensures ∙ ap (λ rs. getD rs (a .from) 0) (sym e))
-    (c .before .found2 .given .0 .0) (subst (AccessAs it (a .task) (a .place) (at .result) 1) (c .before .found2 .given .1) (c .before .before .before .access-of .ensures run))
+    (c .before .found2 .given .0 .0) (subst (AccessAs it (a .task) (a .place) (at .result) 1 1) (c .before .found2 .given .1) (c .before .before .before .access-of .ensures run))
 
 returns-3 : tie.Need-returns-3
 returns-3 c =
@@ -60,7 +60,7 @@ returns-3 c =
     λ run m e.
     let it = looking (now (a .order)) (now (a .modes)) run in
     load-free it (a .task) (a .place) (c .before .before .before .before .before .pre) (a .target) (a .from) (at .result) (at .ensures ∙ ap (λ rs. getD rs (a .from) 0) (sym e)) (c .value-at .result) (c .value-at .ensures ∙ ap (λ l. getD l (at .result) 0) (sym m))
-    (subst (AccessAs it (a .task) (a .place) (at .result) 1) (c .before .enum-told .given .1) (c .before .before .before .access-of .ensures run))
+    (subst (AccessAs it (a .task) (a .place) (at .result) 1 1) (c .before .enum-told .given .1) (c .before .before .before .access-of .ensures run))
 
 pub load-plan-spec : {M : Type 1} → statement M
 load-plan-spec =

@@ -38,10 +38,11 @@ returns-2 c =
     let not-four : a .code ≢ 4 = either came (λ x q. omega (arith, x .keys1, q)) (λ y. either y (λ x q. omega (arith, x .1 .taken, q)) (λ x q. omega (arith, x .2 .left, q))) in
     let not-five : a .code ≢ 5 = either came (λ x q. omega (arith, x .keys1, q)) (λ y. either y (λ x q. omega (arith, x .1 .taken, q)) (λ x q. omega (arith, x .2 .left, q))) in
     let not-eight : a .code ≢ 8 = either came (λ x q. omega (arith, x .keys1, q)) (λ y. either y (λ x q. omega (arith, x .1 .taken, q)) (λ x q. omega (arith, x .3 .taken, q))) in
+    let not-ten : a .code ≢ 10 = either came (λ x q. omega (arith, x .keys1, q)) (λ y. either y (λ x q. omega (arith, x .1 .taken, q)) (λ x q. omega (arith, x .3 .taken, q))) in
     λ run m e.
     free-plans (looking (now (a .order)) (now (a .modes)) run) (a .task) (a .place) (a .instruction) (c .free-plan .result) (c .before .before .pre .0)
     (subst (λ rs. PlansFree rs (a .instruction) (c .free-plan .result)) (sym e)
-    (free-code (a .registers) (a .instruction) (c .free-plan .result) (a .code) (c .before .before .pre .1) not-four not-five not-eight (c .free-plan .ensures)))
+    (free-code (a .registers) (a .instruction) (c .free-plan .result) (a .code) (c .before .before .pre .1) not-four not-five not-eight not-ten (c .free-plan .ensures)))
 
 pub plan-of-spec : {M : Type 1} → statement M
 plan-of-spec = tie.close (tie.spec waiting-plan-requires free-plan-requires returns returns-2)

@@ -41,7 +41,7 @@ returns c =
     λ l run m e.
     let it = looking (now (a .order)) (now (a .modes)) run in
     store-fault it (a .task) (a .place) (c .before .before .before .before .before .pre) (a .to) (a .source) (at .result) (at .ensures ∙ ap (λ rs. getD rs (a .to) 0) (sym e)) (c .before .found .given .0 .0)
-    (subst (AccessAs it (a .task) (a .place) (at .result) 2) (c .before .found .given .1) (c .before .before .before .access-of .ensures run))
+    (subst (AccessAs it (a .task) (a .place) (at .result) 2 2) (c .before .found .given .1) (c .before .before .before .access-of .ensures run))
 
 returns-2 : tie.Need-returns-2
 returns-2 c =
@@ -50,7 +50,7 @@ returns-2 c =
     λ l run m e.
     let it = looking (now (a .order)) (now (a .modes)) run in
     store-held it (a .task) (a .place) (c .before .before .before .before .before .pre) (a .to) (a .source) (at .result) (at .ensures ∙ ap (λ rs. getD rs (a .to) 0) (sym e))
-    (c .before .found2 .given .0 .0) (subst (AccessAs it (a .task) (a .place) (at .result) 2) (c .before .found2 .given .1) (c .before .before .before .access-of .ensures run))
+    (c .before .found2 .given .0 .0) (subst (AccessAs it (a .task) (a .place) (at .result) 2 2) (c .before .found2 .given .1) (c .before .before .before .access-of .ensures run))
 
 returns-3 : tie.Need-returns-3
 returns-3 c =
@@ -59,7 +59,7 @@ returns-3 c =
     λ l run m e.
     let it = looking (now (a .order)) (now (a .modes)) run in
     store-free it (a .task) (a .place) (c .before .before .before .before .before .pre) (a .to) (a .source) (at .result) (at .ensures ∙ ap (λ rs. getD rs (a .to) 0) (sym e)) (c .register-at2 .result) (c .register-at2 .ensures ∙ ap (λ rs. getD rs (a .source) 0) (sym e))
-    (subst (AccessAs it (a .task) (a .place) (at .result) 2) (c .before .enum-told .given .1) (c .before .before .before .access-of .ensures run))
+    (subst (AccessAs it (a .task) (a .place) (at .result) 2 2) (c .before .enum-told .given .1) (c .before .before .before .access-of .ensures run))
 
 pub store-plan-spec : {M : Type 1} → statement M
 store-plan-spec =

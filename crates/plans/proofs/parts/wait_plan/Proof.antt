@@ -43,7 +43,7 @@ returns c =
     λ l run m e.
     let it = looking (now (a .order)) (now (a .modes)) run in
     wait-fault it (a .task) (a .place) (c .before .before .before .before .before .before .pre) (a .at) (at .result) (mode .result) (at .ensures ∙ ap (λ rs. getD rs (a .at) 0) (sym e)) (mode .ensures) (c .before .found .given .0 .0)
-    (subst (AccessAs it (a .task) (a .place) (at .result) (mode .result)) (c .before .found .given .1) (c .before .before .before .access-of .ensures run))
+    (subst (AccessAs it (a .task) (a .place) (at .result) (mode .result) (mode .result)) (c .before .found .given .1) (c .before .before .before .access-of .ensures run))
 
 returns-2 : tie.Need-returns-2
 returns-2 c =
@@ -53,7 +53,7 @@ returns-2 c =
     λ l run m e.
     let it = looking (now (a .order)) (now (a .modes)) run in
     wait-held it (a .task) (a .place) (c .before .before .before .before .before .before .pre) (a .at) (at .result) (mode .result) (at .ensures ∙ ap (λ rs. getD rs (a .at) 0) (sym e)) (mode .ensures)
-    (c .before .found2 .given .0 .0) (subst (AccessAs it (a .task) (a .place) (at .result) (mode .result)) (c .before .found2 .given .1) (c .before .before .before .access-of .ensures run))
+    (c .before .found2 .given .0 .0) (subst (AccessAs it (a .task) (a .place) (at .result) (mode .result) (mode .result)) (c .before .found2 .given .1) (c .before .before .before .access-of .ensures run))
 
 returns-3 : tie.Need-returns-3
 returns-3 c =
@@ -63,7 +63,7 @@ returns-3 c =
     λ l run m e.
     let it = looking (now (a .order)) (now (a .modes)) run in
     wait-free it (a .task) (a .place) (c .before .before .before .before .before .pre) (a .at) (at .result) (mode .result) (at .ensures ∙ ap (λ rs. getD rs (a .at) 0) (sym e)) (mode .ensures)
-    (subst (AccessAs it (a .task) (a .place) (at .result) (mode .result)) (c .enum-told .given .1) (c .before .before .access-of .ensures run))
+    (subst (AccessAs it (a .task) (a .place) (at .result) (mode .result) (mode .result)) (c .enum-told .given .1) (c .before .before .access-of .ensures run))
 
 pub wait-plan-spec : {M : Type 1} → statement M
 wait-plan-spec =

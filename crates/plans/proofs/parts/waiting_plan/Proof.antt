@@ -12,6 +12,7 @@ use Rattle.plans.proofs.parts.waiting_plan.Lts as lts
 use Rattle.plans.proofs.parts.load_plan.Reads as load-plan-reads
 use Rattle.plans.proofs.parts.store_plan.Reads as store-plan-reads
 use Rattle.plans.proofs.parts.wait_plan.Reads as wait-plan-reads
+use Rattle.plans.proofs.parts.sum_plan.Reads as sum-plan-reads
 
 enum-known-instruction : tie.Need-enum-known-instruction
 enum-known-instruction c = search needs
@@ -30,6 +31,12 @@ enum-known-instruction-3 c = search needs
 
 wait-plan-requires : tie.Need-wait-plan-requires
 wait-plan-requires c κs = search needs
+
+enum-known-instruction-4 : tie.Need-enum-known-instruction-4
+enum-known-instruction-4 c = search needs
+
+sum-plan-requires : tie.Need-sum-plan-requires
+sum-plan-requires c κs = search needs
 
 enum-told : tie.Need-enum-told
 enum-told c = search needs
@@ -75,42 +82,49 @@ returns-3 c =
 
 returns-4 : tie.Need-returns-4
 returns-4 c =
-    let a = c .before .before .args in
+    let a = c .before .before .before .before .args in
     λ run m e.
-    subst (λ i. WaitAs (looking (now (a .order)) (now (a .modes)) run) (a .task) (a .place) i (Pass 0)) (sym (c .enum-told .given .1)) tt
+    subst (λ i. WaitAs (looking (now (a .order)) (now (a .modes)) run) (a .task) (a .place) i (c .sum-plan .result)) (sym (c .before .before .instruction4 .given .1))
+    (c .sum-plan .ensures (a .memory) run m e)
 
 returns-5 : tie.Need-returns-5
 returns-5 c =
     let a = c .before .before .args in
     λ run m e.
-    subst (λ i. WaitAs (looking (now (a .order)) (now (a .modes)) run) (a .task) (a .place) i (Pass 0)) (sym (c .enum-told2 .given .1)) tt
+    subst (λ i. WaitAs (looking (now (a .order)) (now (a .modes)) run) (a .task) (a .place) i (Pass 0)) (sym (c .enum-told .given .1)) tt
 
 returns-6 : tie.Need-returns-6
 returns-6 c =
     let a = c .before .before .args in
     λ run m e.
-    subst (λ i. WaitAs (looking (now (a .order)) (now (a .modes)) run) (a .task) (a .place) i (Pass 0)) (sym (c .enum-told3 .given .1)) tt
+    subst (λ i. WaitAs (looking (now (a .order)) (now (a .modes)) run) (a .task) (a .place) i (Pass 0)) (sym (c .enum-told2 .given .1)) tt
 
 returns-7 : tie.Need-returns-7
 returns-7 c =
     let a = c .before .before .args in
     λ run m e.
-    subst (λ i. WaitAs (looking (now (a .order)) (now (a .modes)) run) (a .task) (a .place) i (Pass 0)) (sym (c .enum-told4 .given .1)) tt
+    subst (λ i. WaitAs (looking (now (a .order)) (now (a .modes)) run) (a .task) (a .place) i (Pass 0)) (sym (c .enum-told3 .given .1)) tt
 
 returns-8 : tie.Need-returns-8
 returns-8 c =
     let a = c .before .before .args in
     λ run m e.
-    subst (λ i. WaitAs (looking (now (a .order)) (now (a .modes)) run) (a .task) (a .place) i (Pass 0)) (sym (c .enum-told5 .given .1)) tt
+    subst (λ i. WaitAs (looking (now (a .order)) (now (a .modes)) run) (a .task) (a .place) i (Pass 0)) (sym (c .enum-told4 .given .1)) tt
 
 returns-9 : tie.Need-returns-9
 returns-9 c =
     let a = c .before .before .args in
     λ run m e.
-    subst (λ i. WaitAs (looking (now (a .order)) (now (a .modes)) run) (a .task) (a .place) i (Pass 0)) (sym (c .enum-told6 .given .1)) tt
+    subst (λ i. WaitAs (looking (now (a .order)) (now (a .modes)) run) (a .task) (a .place) i (Pass 0)) (sym (c .enum-told5 .given .1)) tt
 
 returns-10 : tie.Need-returns-10
 returns-10 c =
+    let a = c .before .before .args in
+    λ run m e.
+    subst (λ i. WaitAs (looking (now (a .order)) (now (a .modes)) run) (a .task) (a .place) i (Pass 0)) (sym (c .enum-told6 .given .1)) tt
+
+returns-11 : tie.Need-returns-11
+returns-11 c =
     let a = c .before .before .args in
     λ run m e.
     subst (λ i. WaitAs (looking (now (a .order)) (now (a .modes)) run) (a .task) (a .place) i (Pass 0)) (sym (c .enum-told7 .given .1)) tt
@@ -125,6 +139,8 @@ waiting-plan-spec =
     store-plan-requires
     enum-known-instruction-3
     wait-plan-requires
+    enum-known-instruction-4
+    sum-plan-requires
     enum-told
     enum-told-2
     enum-told-3
@@ -141,4 +157,5 @@ waiting-plan-spec =
     returns-7
     returns-8
     returns-9
-    returns-10)
+    returns-10
+    returns-11)

@@ -13,7 +13,7 @@ use Rattle.listing.proofs.AccessLaws.{body-size-is, instruction-is}
 use Rattle.looks.specs.declared.Located.the-variants.{At}
 use Rattle.looks.specs.Looks.{ReadyIn}
 use Rattle.looks.proofs.LookLaws.{not-finished}
-use Rattle.steps.proofs.StepChangeLaws.{StepsBy, steps-by, change-before, change-held, change-fault, change-assign, change-pass, change-store, change-spawn}
+use Rattle.steps.proofs.StepChangeLaws.{StepsBy, steps-by, change-before, change-held, change-fault, change-assign, change-pass, change-store, change-sum, change-spawn}
 use borrow.Author.Needs.{needs}
 use Rattle.steps.proofs.step.step_change.Statement.{statement}
 use Rattle.steps.proofs.step.step_change.Tie as tie
@@ -192,6 +192,18 @@ changed-requires-4 c κs = search needs
 enum-known-plan-6 : tie.Need-enum-known-plan-6
 enum-known-plan-6 c = search needs
 
+passed-requires-4 : tie.Need-passed-requires-4
+passed-requires-4 c κs = search needs
+
+sum-requires : tie.Need-sum-requires
+sum-requires c κs = search needs
+
+changed-requires-5 : tie.Need-changed-requires-5
+changed-requires-5 c κs = search needs
+
+enum-known-plan-7 : tie.Need-enum-known-plan-7
+enum-known-plan-7 c = search needs
+
 spawned-requires : tie.Need-spawned-requires
 spawned-requires c κs = ready (c .before .before .before .before .before .before .before .before .before .before .before .before .before .before .before .before) .0
 
@@ -244,11 +256,19 @@ returns-6 c =
 
 returns-7 : tie.Need-returns-7
 returns-7 c =
+    let p = c .before .before .before .before .before .before .before in
+    let a = start-of (found-of p) .args in
+    change-sum (a .t1) (a .memory .now) (a .modes .now) (a .order .now) (a .left) (a .own) (a .task) (a .weights) (place-at (found-of p)) (p .before .units-of .result * p .weight-at .result) (p .before .before .plan-of .result) (there p)
+    (c .before .before .before .before .before .plan6 .given .0 .0) (c .before .before .before .before .before .plan6 .given .0 .1 .0) (c .before .before .before .before .before .plan6 .given .1) (c .before .before .before .passed4 .result) (c .before .before .before .passed4 .ensures .0) (c .before .sum .last .0) (c .before .sum .ensures)
+    (c .changed5 .result) (c .changed5 .ensures)
+
+returns-8 : tie.Need-returns-8
+returns-8 c =
     let p = c .before .before .before .before .before .before in
     let a = start-of (found-of p) .args in
     change-spawn (a .t1) (a .memory .now) (a .modes .now) (a .order .now) (a .left) (a .own) (a .task) (a .weights) (place-at (found-of p)) (p .before .units-of .result * p .weight-at .result) (p .before .before .plan-of .result) (there p)
-    (c .before .before .before .before .plan6 .given .0 .0) (c .before .before .before .before .plan6 .given .0 .1 .0)
-    (c .before .before .before .before .plan6 .given .0 .1 .1 .0) (c .before .before .before .before .plan6 .given .0 .1 .1 .1 .0) (c .before .before .before .before .plan6 .given .1) (c .spawned .last .1 .0) (c .spawned .last .1 .1 .0) (c .spawned .result) (c .spawned .ensures)
+    (c .before .before .before .before .plan7 .given .0 .0) (c .before .before .before .before .plan7 .given .0 .1 .0)
+    (c .before .before .before .before .plan7 .given .0 .1 .1 .0) (c .before .before .before .before .plan7 .given .0 .1 .1 .1 .0) (c .before .before .before .before .plan7 .given .1) (c .spawned .last .1 .0) (c .spawned .last .1 .1 .0) (c .spawned .result) (c .spawned .ensures)
 
 pub step-change-spec : {M : Type 1} → statement M
 step-change-spec =
@@ -288,6 +308,10 @@ step-change-spec =
     store-requires
     changed-requires-4
     enum-known-plan-6
+    passed-requires-4
+    sum-requires
+    changed-requires-5
+    enum-known-plan-7
     spawned-requires
     returns
     returns-2
@@ -295,4 +319,5 @@ step-change-spec =
     returns-4
     returns-5
     returns-6
-    returns-7)
+    returns-7
+    returns-8)

@@ -7,6 +7,7 @@ use lib.ListN.{length, take}
 use lib.Seq.{length-take-le}
 use Rattle.semantics.specs.Run as Semantics
 use Rattle.semantics.specs.Operations.{Asked, denies, gives, with-list, open-asked}
+use Rattle.plans.specs.View.{model as parts-model}
 use Rattle.runtime.specs.declared.Run.{Run}
 use Rattle.runtime.specs.declared.Opened.{Opened}
 use Rattle.tasklist.specs.TaskList.{TaskList}
@@ -31,11 +32,11 @@ unfolding blank-run
 blank-left = refl
 
 model-calls : (r : Run) → model r .calls ≡ r .calls
-unfolding model
+unfolding parts-model
 model-calls r = refl
 
 order-length : (r : Run) → SoundRun r → length (model r .order) ≡ r .left
-unfolding model
+unfolding parts-model
 order-length r s = length-take-le (r .left) (r .order) (omega (arith, s .left, s .order))
 
 module _ (bytes weights : List ℕ) (o : Opened) where

@@ -31,11 +31,12 @@ use Rattle.runtime.specs.declared.Run.{Run}
 use Rattle.runtime.specs.declared.Opened.{Opened}
 use Rattle.runtime.specs.declared.OpenAnswer.{OpenAnswer}
 use Rattle.runtime.specs.declared.OpenAnswer.the-variants as Opening
-use Rattle.runtime.specs.View.{tasks-from, model, SoundRun, blank-record, blank-run}
-use Rattle.runtime.specs.Asked.{open-number, OpenedAs}
+use Rattle.plans.specs.View.{tasks-from, blank-record, model as parts-model}
+use Rattle.runtime.specs.View.{model, SoundRun, blank-run}
 use Rattle.runtime.specs.Parts.{InitialOf}
+use Rattle.runtime.specs.Asked.{open-number, OpenedAs}
+use Rattle.plans.proofs.ViewLaws.{same-run, tasks-never}
 use Rattle.records.specs.Records.{with-state}
-use Rattle.runtime.proofs.ViewLaws.{same-run, tasks-never}
 
 -- "as check": the list is refused
 refused-with :
@@ -191,7 +192,7 @@ module _
         (tasks-never 1 127 (fresh-modes n few) (λ j a b. other-row n few j a b))
 
     pub opened-model : model r ≡ initial under numbers
-    unfolding model initial
+    unfolding parts-model initial
     opened-model =
         same-run (model r) (initial under numbers)
         (ap (λ k. take k (r .memory)) (ap (λ x. x .locations) (i .tables) ∙ sym fits) ∙ i .held)

@@ -10,7 +10,8 @@ use Rattle.tasklist.specs.declared.Tables.{Tables}
 use Rattle.tasklist.specs.Tables.{blank-tables}
 use Rattle.semantics.specs.declared.Record.{Record}
 use Rattle.runtime.specs.declared.Run.{Run}
-use Rattle.runtime.specs.View.{blank-record, blank-run}
+use Rattle.plans.specs.View.{blank-record}
+use Rattle.runtime.specs.View.{blank-run}
 
 -- one number more of a list is copied
 pub filled :

@@ -31,9 +31,10 @@ use Rattle.arrays.proofs.SpliceLaws.{placed, unplaced}
 use Rattle.ahead.proofs.SearchLaws.{search-by}
 use Rattle.runtime.specs.declared.Run.{Run}
 use Rattle.runtime.specs.declared.Queued.the-variants as Queueing
-use Rattle.runtime.specs.View.{model, context-of, blank-record}
+use Rattle.plans.specs.View.{blank-record, no-record, model as parts-model}
+use Rattle.runtime.specs.View.{model, context-of}
+use Rattle.runtime.specs.Parts.{record-of, shown, shown-at, all-shown}
 use Rattle.runtime.specs.Asked.{queued, queue-answer, queue-out, QueuedAs}
-use Rattle.runtime.specs.Parts.{no-record, record-of, shown, shown-at, all-shown}
 use Rattle.runtime.proofs.ViewLaws.{task-is, mode-is}
 
 pub shown-none : (k mode : ℕ) → mode ≡ 0 → shown k mode ≡ []
@@ -98,7 +99,7 @@ module _ (r : Semantics.Run) (a : ℕ) (mode : ℕ → ℕ) (same : (k : ℕ) �
 pub queue-shown :
     (run : Run) (a : ℕ) → length (run .records) ≡ 128 → length (run .modes) ≡ 8192
     → queue-places (model run) a ≡ all-shown run a
-unfolding queue-places queue model
+unfolding queue-places queue parts-model
 queue-shown run a r m =
     places-shown (model run) a (λ k. getD (row k (run .modes)) a 0) (λ k. mode-is run k a r m) (take (run .left) (run .order))
 
@@ -160,7 +161,7 @@ module _ (run : Run) (n : ℕ) (gs : List Access) where
 
   module _ (below : n < 128) (p : Place) (found : p ≡ place-of n (take (run .left) (run .order))) where
     pub search-absent : p ≡ Places.Absent → denies 10 ≡ search-asked (model run) n gs
-    unfolding search-asked model
+    unfolding search-asked parts-model
     search-absent q =
         let none = unplaced n (take (run .left) (run .order)) (sym found ∙ q) in
         sym (rw (lt-ltb n 128 below, none) refl)
@@ -168,7 +169,7 @@ module _ (run : Run) (n : ℕ) (gs : List Access) where
     pub search-given :
         (at : ℕ) → p ≡ Places.At at → length (run .records) ≡ 128 → length (run .modes) ≡ 8192 → (s : Searched)
         → s ≡ searched-ahead (run .modes) (take at (run .order)) gs → gives (found-of s) ≡ search-asked (model run) n gs
-    unfolding search-asked model
+    unfolding search-asked parts-model
     search-given at q r m s e =
         let there = placed n (take (run .left) (run .order)) at (sym found ∙ q) in
         let ahead-of = sym (there .before) ∙ take-take at (run .left) (run .order) (omega (arith, there .within, length-take (run .left) (run .order))) in

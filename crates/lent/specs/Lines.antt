@@ -5,7 +5,7 @@ use Rattle.semantics.specs.Run.{Context, Run}
 use Rattle.semantics.specs.Plan.{start, step, «end»}
 use Rattle.semantics.specs.Call.{Call, decide, after-all}
 use Rattle.semantics.specs.Answers.{outcome-number}
-use Rattle.runtime.specs.Calls.{call-of}
+use Rattle.plans.specs.Calls.{call-of}
 use Rattle.runtime.specs.Calls.{calls-of-kind}
 
 -- the calls of these bytes; half a call is none

@@ -23,6 +23,7 @@ use Rattle.library.specs.declared.Table.{Table}
 use Rattle.library.specs.Library.{bytes-of, memory-of, fitting, Read, at-front, Put}
 use Rattle.library.specs.Table.{table-of, ReadTable}
 use Rattle.library.proofs.LibraryLaws.{fits-alike}
+use Rattle.plans.specs.View.{model as parts-model}
 use Rattle.runtime.specs.declared.Run.{Run}
 use Rattle.runtime.specs.declared.Opened.{Opened}
 use Rattle.runtime.specs.declared.OpenAnswer.the-variants as Opening
@@ -46,13 +47,13 @@ module _ (run : Run) (before after : List ℕ) where
   bytes = bytes-of (take (run .tables .locations) (run .memory))
 
   pub delivers : (done : Bool) → done ≡ true → Put bytes before after done → Answers (final-entries (length before) (gives (model run))) before after 0
-  unfolding model final-entries at-front hand-run-number hand-run-places
+  unfolding parts-model final-entries at-front hand-run-number hand-run-places
   delivers done t p =
       let fits : leb (length bytes) (length before) ≡ true = sym (p .fits) ∙ t in
       record { number = rw fits refl; places = p .places ∙ rw fits refl }
 
   pub delivers-none : (done : Bool) → done ≡ false → Put bytes before after done → Answers (final-entries (length before) (gives (model run))) before after 145
-  unfolding model final-entries at-front hand-run-number hand-run-places
+  unfolding parts-model final-entries at-front hand-run-number hand-run-places
   delivers-none done t p =
       let fits : leb (length bytes) (length before) ≡ false = sym (p .fits) ∙ t in
       record { number = rw fits refl; places = p .places ∙ rw fits refl }

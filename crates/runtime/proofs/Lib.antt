@@ -1,10 +1,5 @@
 -- Laws that the proofs of the functions cite.
 pub mod ViewLaws
 pub mod CallLaws
-pub mod StepLaws
-pub mod CarryLaws
 pub mod MadeLaws
-pub mod ChangeLaws
-pub mod MakeLaws
-pub mod SpawnLaws
-pub mod StepChangeLaws
+pub mod MethodLaws

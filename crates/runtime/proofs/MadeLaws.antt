@@ -6,9 +6,10 @@ use Rattle.semantics.specs.Run.{Context}
 use Rattle.semantics.specs.Run as Semantics
 use Rattle.semantics.specs.Plan.{Action, start, step, «end»}
 use Rattle.semantics.specs.Call.{Call, after, after-all}
+use Rattle.plans.specs.Calls.{call-of}
 use Rattle.runtime.specs.declared.Run.{Run}
 use Rattle.runtime.specs.View.{model, context-of, SoundRun}
-use Rattle.runtime.specs.Calls.{calls-of-kind, call-of, CallsMade}
+use Rattle.runtime.specs.Calls.{calls-of-kind, CallsMade}
 use Rattle.runtime.proofs.ViewLaws.{same-context}
 
 pub after-append :

@@ -3,5 +3,3 @@ pub mod View
 pub mod Calls
 pub mod Asked
 pub mod Parts
-pub mod Steps
-pub mod Changes

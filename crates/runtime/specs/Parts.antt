@@ -1,70 +1,22 @@
--- What the parts of a call promise each other.
-use Prim.Native.Nat.{ℕ, _+_, _-_, _*_, _%_, _^_, _≤_, _<_}
+-- What the functions on a run promise each other.
+use Prim.Native.Nat.{ℕ, _+_, _-_, _*_}
 use mathlib.Core.Path.{_≡_}
 use mathlib.Core.List.{List, [], _∷_, _++_}
-use mathlib.Core.Bool.{true, cond}
-use lib.ListN.{length, take, getD, set, replicate}
+use mathlib.Core.Bool.{cond}
+use lib.ListN.{length, take, getD, replicate}
 use lib.Dec.{eqb}
 use Rattle.tasklist.specs.declared.Tables.{Tables}
 use Rattle.tasklist.specs.Encode.{joined}
 use Rattle.semantics.specs.declared.Record.{Record}
-use Rattle.semantics.specs.Run.{task-of, start-weight, end-weight}
-use Rattle.semantics.specs.Access.{ahead}
-use Rattle.semantics.specs.Effect.{Effect, own, in-state, leaving}
-use Rattle.semantics.specs.Plan.{Action}
-use Rattle.semantics.specs.Call.{among, refuse, accept}
-use Rattle.semantics.specs.Answers.{refusal-number}
-use Rattle.arrays.specs.Places.{without}
 use Rattle.arrays.specs.Rows.{row}
 use Rattle.records.specs.Records.{with-state}
+use Rattle.plans.specs.View.{blank-record}
+use Rattle.plans.specs.View as Of
 use Rattle.runtime.specs.declared.Run.{Run}
-use Rattle.runtime.specs.declared.Located.{Located}
-use Rattle.runtime.specs.declared.Located.the-variants.{Refused, At}
-use Rattle.runtime.specs.View.{model, context-of, SoundRun, blank-record}
-use Rattle.runtime.specs.Calls.{decided}
-
--- task n stands at this place of the order
-pub record Placed (run : Run) (n place : ℕ) : Type 0 where
-  pub within : place < run .left
-  pub here : getD (model run .order) place 0 ≡ n
-  pub listed : among n (model run .order) ≡ true
-  pub ahead-of : ahead n (model run .order) ≡ take place (run .order)
-
--- "9 number above 127; 10 not in the order", whatever is called; else the task's place
-abbrev pub LocatedAs : Run → ℕ → Located → Type 0
-LocatedAs run n (Refused k) = SoundRun run → (a : Action) → decided run a n ≡ refuse (refusal-number k)
-LocatedAs run n (At place) = (n < 128) × (SoundRun run → Placed run n place)
-
--- what comes of a call: refused, or this effect, of the task at this place
-abbrev pub PlannedAs : Action → Effect → Run → ℕ → Located → Type 0
-PlannedAs a e run n (Refused k) = SoundRun run → decided run a n ≡ refuse (refusal-number k)
-PlannedAs a e run n (At place) = (n < 128) × (SoundRun run → Placed run n place × (decided run a n ≡ accept e))
-
--- what stands past the end of the records
-abbrev pub no-record : Record
-no-record = record { state = 0; body = 0; pc = 0; registers = []; steps = 0; fault = 0; weight = 0 }
+use Rattle.runtime.specs.View.{parts-of}
 
 abbrev pub record-of : Run → ℕ → Record
-record-of run n = getD (run .records) n no-record
-
-abbrev pub start-effect : Run → ℕ → Effect
-start-effect run n = own (start-weight (context-of run)) (in-state 2 (task-of (model run) n))
-
-abbrev pub end-effect : Run → ℕ → Effect
-end-effect run n = leaving (end-weight (context-of run)) (task-of (model run) n)
-
--- a record with this much more weight, as 32 bits hold it
-abbrev pub heavier : ℕ → Record → Record
-heavier w t =
-    record {
-      state = t .state;
-      body = t .body;
-      pc = t .pc;
-      registers = t .registers;
-      steps = t .steps;
-      fault = t .fault;
-      weight = (t .weight + w) % 2 ^ 32;
-    }
+record-of run n = Of.record-of (parts-of run) n
 
 -- "job 0 alone in the order, all other records zero, calls and weight 0": the code's run of these tables, this memory and these
 -- weights

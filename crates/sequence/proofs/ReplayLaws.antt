@@ -17,14 +17,15 @@ use Rattle.semantics.specs.Operations.{Asked, denies, gives, with-list, open-as
 use Rattle.semantics.proofs.Guarantee.{Guarantee}
 use Rattle.semantics.proofs.Bytes.{guarantee-of-bytes}
 use Rattle.semantics.proofs.Asked.{AskedCase, denied, given, asked-case}
+use Rattle.plans.specs.View.{model as parts-model}
 use Rattle.runtime.specs.declared.Run.{Run}
 use Rattle.runtime.specs.declared.Opened.{Opened}
 use Rattle.runtime.specs.declared.OpenAnswer.the-variants.{Accepted}
 use Rattle.runtime.specs.View.{model, context-of, SoundRun, blank-run}
-use Rattle.runtime.specs.Calls.{calls-of-kind, call-of, CallsMade}
+use Rattle.runtime.specs.Calls.{calls-of-kind, CallsMade}
 use Rattle.runtime.specs.Asked.{open-number, Unopened, OpenedAs}
 use Rattle.runtime.proofs.ViewLaws.{same-context}
-use Rattle.runtime.proofs.MadeLaws.{after-append, no-calls, calls-append}
+use Rattle.runtime.proofs.MadeLaws.{no-calls, calls-append}
 use Rattle.sequence.specs.Replays.{calls-of, ReplayedAs}
 
 drop-all : (l : List ℕ) (k : ℕ) → length l ≤ k → drop k l ≡ []
@@ -75,7 +76,7 @@ unfolding blank-run
 blank-left = refl
 
 fresh-left : (r : Run) (c : Context) (memory : List ℕ) → model r ≡ initial c memory → r .left ≡ 0 → ⊥
-unfolding model initial
+unfolding parts-model initial
 fresh-left r c memory q z =
     let one : length (take (r .left) (r .order)) ≡ 1 = ap (λ m. length (m .order)) q in
     let none : length (take (r .left) (r .order)) ≡ 0 = ap (λ k. length (take k (r .order))) z in

@@ -20,21 +20,26 @@ use Rattle.semantics.specs.Call.{decide, after, after-all}
 use Rattle.semantics.specs.Sequential.{made-by, start-of, step-of, end-of, run-each, step-through, steps-through, enough, run-whole, sequential}
 use Rattle.semantics.specs.Operations.{gives, with-list, open-asked, sequential-asked}
 use Rattle.runtime.specs.declared.Run.{Run}
-use Rattle.runtime.specs.declared.Change.{Change}
+use Rattle.changes.specs.declared.Change.{Change}
 use Rattle.runtime.specs.declared.Opened.{Opened}
 use Rattle.runtime.specs.declared.OpenAnswer.the-variants as Opening
-use Rattle.runtime.specs.View.{model, context-of, SoundRun}
-use Rattle.runtime.specs.Calls.{call-of, decided, CallsMade}
+use Rattle.plans.specs.Calls.{call-of}
+use Rattle.looks.specs.Looks.{BodySize}
+use Rattle.changes.specs.Calls.{CallsMade as PartsMade}
+use Rattle.changes.specs.Changes.{put, StartedBy, EndedBy}
+use Rattle.steps.specs.Stepping.{with-children, with-made, SteppedBy, Makes}
+use Rattle.runtime.specs.View.{parts-of, model, context-of, SoundRun}
+use Rattle.runtime.specs.Calls.{decided, CallsMade}
 use Rattle.runtime.specs.Parts.{record-of}
 use Rattle.runtime.specs.Asked.{open-number, OpenedAs}
-use Rattle.runtime.specs.Changes.{BodySize, put, with-children, with-made, StartedBy, EndedBy, SteppedBy, Makes}
+use Rattle.plans.proofs.DecideLaws.{own-task}
+use Rattle.changes.proofs.ChangeLaws.{change-made}
+use Rattle.steps.proofs.ChildrenLaws.{ChildrenLeft, children-all, child-written, children-written}
+use Rattle.runtime.proofs.ViewLaws.{same-context}
 use Rattle.records.specs.Records.{child-record}
 use Rattle.tables.specs.Children.{numbers}
 use Rattle.sequence.specs.declared.Progress.{Progress}
 use Rattle.sequence.specs.Replays.{joined, RunWhole}
-use Rattle.runtime.proofs.ViewLaws.{same-context}
-use Rattle.runtime.proofs.CallLaws.{own-task}
-use Rattle.runtime.proofs.ChangeLaws.{change-made, ChildrenLeft, children-all, child-written, children-written}
 use Rattle.sequence.proofs.ReplayLaws.{still-unopened, Fresh, now-fresh}
 
 -- A change put into the run that is put together.
@@ -53,7 +58,8 @@ module _
     before = joined tables weights p memory modes order
 
     put-joined :
-        (m ms o : List ℕ) → joined tables weights (onward p n c calls weight) m ms o ≡ put n c (joined tables weights p m ms o)
+        (m ms o : List ℕ)
+        → parts-of (joined tables weights (onward p n c calls weight) m ms o) ≡ put n c (parts-of (joined tables weights p m ms o))
     put-joined m ms o = λ i. record {
       tables = tables;
       memory = m;
@@ -70,16 +76,17 @@ module _
         StartedBy order modes (p .left) (record-of before n) n weights c
         → CallsMade (call-of start n ∷ []) before (joined tables weights (onward p n c calls weight) memory modes order)
     start-joined h =
-        subst (CallsMade (call-of start n ∷ []) before) (sym (put-joined memory modes order))
-        (change-made start before n (put n c before) (c .answer) (h before refl refl))
+        subst (PartsMade (call-of start n ∷ []) (parts-of before)) (sym (put-joined memory modes order))
+        (change-made start (parts-of before) n (put n c (parts-of before)) (c .answer) (h (parts-of before) refl refl))
 
     pub end-joined :
-        (o : List ℕ) (size : ℕ) → BodySize size (record-of before n) before
+        (o : List ℕ) (size : ℕ) → BodySize size (record-of before n) (parts-of before)
         → EndedBy order o (p .left) (record-of before n) size n weights c
         → CallsMade (call-of «end» n ∷ []) before (joined tables weights (onward p n c calls weight) memory modes o)
     end-joined o size fits h =
-        subst (CallsMade (call-of «end» n ∷ []) before) (sym (put-joined memory modes o))
-        (change-made «end» before n (put n c (joined tables weights p memory modes o)) (c .answer) (h before refl refl fits))
+        subst (PartsMade (call-of «end» n ∷ []) (parts-of before)) (sym (put-joined memory modes o))
+        (change-made «end» (parts-of before) n (put n c (parts-of (joined tables weights p memory modes o))) (c .answer)
+        (h (parts-of before) refl refl fits))
 
     module _ (m ms o : List ℕ) (h : SteppedBy tables memory modes order m ms o (p .left) (record-of before n) n weights c) where
       -- with the records of the tasks made
@@ -89,11 +96,12 @@ module _
           → CallsMade (call-of step n ∷ []) before (joined tables weights q m ms o)
       step-joined q written =
           subst (λ x. CallsMade (call-of step n ∷ []) before (joined tables weights x m ms o)) (sym written)
-          (subst (λ x. CallsMade (call-of step n ∷ []) before (with-made c x)) (sym (put-joined m ms o))
-          (change-made step before n (with-made c (put n c (joined tables weights p m ms o))) (c .answer) (h .1 before refl refl .0)))
+          (subst (λ x. PartsMade (call-of step n ∷ []) (parts-of before) (with-made c x)) (sym (put-joined m ms o))
+          (change-made step (parts-of before) n (with-made c (put n c (parts-of (joined tables weights p m ms o)))) (c .answer)
+          (h .1 (parts-of before) refl refl .0)))
 
-      pub makes-joined : SoundRun before → Makes before n c
-      makes-joined = h .1 before refl refl .1
+      pub makes-joined : SoundRun before → Makes (parts-of before) n c
+      makes-joined = h .1 (parts-of before) refl refl .1
 
 -- The records of the first i tasks made are still to be written; the rest is as it was.
 pub record Writing (child apart : ℕ) (made : Record) (children : ℕ) (from : Progress) (i : ℕ) (p : Progress) : Type 0 where
@@ -125,7 +133,7 @@ module _ (run : Run) (n : ℕ) (below : n < 128) (size : ℕ)
   pub enough-steps : SoundRun run → size + 1 ≡ enough (context-of run) (model run) n
   unfolding enough
   enough-steps s =
-      add-one size ∙ ap suc (same ∙ ap (λ t. length (body-of (list-of (run .tables)) (t .body))) (sym (own-task run s n below)))
+      add-one size ∙ ap suc (same ∙ ap (λ t. length (body-of (list-of (run .tables)) (t .body))) (sym (own-task (parts-of run) s n below)))
 
 -- The steps that are left: t more from r come to what `limit` come to from the first run.
 pub record StepsLeft (bodies n limit : ℕ) (from : Run) (t : ℕ) (r : Run) : Type 0 where

@@ -30,7 +30,7 @@ fn run_whole(
     }
     let own = p.records[task];
     let size = listing::row_size(tables.bodies, &tables.sizes, 32, own.body as usize);
-    let change = runtime::start_change(order, modes, p.left, own, task as u32, weights);
+    let change = changes::start_change(order, modes, p.left, own, task as u32, weights);
     let next = change.own;
     p.records[task] = next;
     p.left = change.left;
@@ -41,11 +41,11 @@ fn run_whole(
     while 0 < steps {
         let own = p.records[task];
         let size = listing::row_size(tables.bodies, &tables.sizes, 32, own.body as usize);
-        if runtime::at_end(own, size) {
+        if looks::at_end(own, size) {
             steps = 0;
             continue;
         }
-        let change = runtime::step_change(
+        let change = steps::step_change(
             tables,
             memory,
             modes,
@@ -90,7 +90,7 @@ fn run_whole(
     }
     let own = p.records[task];
     let size = listing::row_size(tables.bodies, &tables.sizes, 32, own.body as usize);
-    let change = runtime::end_change(order, p.left, own, size, task as u32, weights);
+    let change = changes::end_change(order, p.left, own, size, task as u32, weights);
     let next = change.own;
     p.records[task] = next;
     p.left = change.left;

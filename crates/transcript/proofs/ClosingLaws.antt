@@ -10,6 +10,7 @@ use lib.Seq.{sets, sets-eq, length-sets, length-take-le, take-suc, take-all, get
 use borrow.Author.Tests.{le-leb, lt-leb}
 use Rattle.tasklist.specs.Encode.{joined}
 use Rattle.tasklist.proofs.WriterLaws.{sets-append}
+use Rattle.plans.specs.View.{model as parts-model}
 use Rattle.runtime.specs.declared.Run.{Run}
 use Rattle.runtime.specs.View.{model}
 use Rattle.transcript.specs.declared.Pending.{Pending}
@@ -134,11 +135,11 @@ module _ (xs before : List ℕ) where
 -- the memory of the model is that of the code
 module _ (run : Run) (whole : length (run .memory) ≡ 64) (n : ℕ) (q : n ≡ min (run .tables .locations) 64) where
   pub memory-long : length (model run .memory) ≡ n
-  unfolding model
+  unfolding parts-model
   memory-long = length-take (run .tables .locations) (run .memory) ∙ ap (min (run .tables .locations)) whole ∙ sym q
 
   pub memory-at : (i : ℕ) → i < n → getD (run .memory) i 0 ≡ getD (model run .memory) i 0
-  unfolding model
+  unfolding parts-model
   memory-at i h = sym (getD-take (run .tables .locations) (run .memory) i 0 (omega arith))
 
 -- the memory, then the totals
@@ -148,7 +149,7 @@ pub closed :
     → left ≡ min (run .left) 128 → n ≤ at + 33
     → n ≡ at + length (totals (run .calls) (run .weight) left) → out₂ ≡ sets out₁ at (totals (run .calls) (run .weight) left)
     → Wrote (given 737 out (closing (model run))) out out₂ n
-unfolding closing model
+unfolding closing parts-model
 closed run out out₁ out₂ at n left whole room a few o l most k e =
     wrote-all (given 737 out (closing (model run))) (closing (model run)) out out₂ n (with-room 737 out (closing (model run)) room) fits count put
   where

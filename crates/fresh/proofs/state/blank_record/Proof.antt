@@ -1,7 +1,7 @@
 -- The record as made is the blank one.
 -- Assumes nothing.
 use mathlib.Core.Path.{refl}
-use Rattle.runtime.specs.View.{blank-record}
+use Rattle.plans.specs.View.{blank-record}
 use Rattle.fresh.proofs.state.blank_record.Statement.{statement}
 use Rattle.fresh.proofs.state.blank_record.Tie as tie
 

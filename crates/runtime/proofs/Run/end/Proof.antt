@@ -6,17 +6,18 @@ use Rattle.tasklist.specs.Tables.{list-of}
 use Rattle.tasklist.proofs.Cell.{the-type as the-cell}
 use Rattle.tasklist.proofs.PlaceLaws.{length-lowered}
 use Rattle.listing.proofs.AccessLaws.{body-size-is}
+use Rattle.runtime.specs.View.{parts-of}
 use Rattle.runtime.specs.Parts.{record-of}
-use Rattle.runtime.specs.Changes.{ordered}
+use Rattle.looks.specs.Looks.{ordered}
 use Rattle.semantics.specs.Plan.{«end»}
-use Rattle.runtime.proofs.ChangeLaws.{call-refused, call-accepted}
+use Rattle.runtime.proofs.MethodLaws.{call-refused, call-accepted}
 use borrow.Author.Needs.{needs}
 use Rattle.runtime.proofs.Run.end.Statement.{statement}
 use Rattle.runtime.proofs.Run.end.Tie as tie
 use Rattle.runtime.proofs.Run.end.Reads as reads
 use Rattle.runtime.proofs.Run.end.Lts as lts
 use Rattle.listing.proofs.row_size.Reads as row-size-reads
-use Rattle.runtime.proofs.calls.end_change.Reads as end-change-reads
+use Rattle.changes.proofs.end_change.Reads as end-change-reads
 use Rattle.std.proofs.num.wrapping_add_u32.Reads as wrapping-add-u32-reads
 
 out-of-range-requires : tie.Need-out-of-range-requires
@@ -78,7 +79,7 @@ returns-2 c =
     let cells = length-lowered (the-cell .to) (a .t1 .tables .cells) 1024 (c .before .before .before .before .before .before .before .before .before .before .before .before .before .good .0 .1 .1 .0 .1 .1 .1 .1 .1 .1 .1 .1 .0 .1 .0 .1) in
     let fits : c .before .before .before .before .before .row-size .result ≡ length (body-of (list-of (a .t1 .tables)) (record-of (a .t1) (a .task) .body)) =
     c .before .before .before .before .before .row-size .ensures .0 ∙ body-size-is (a .t1 .tables) (record-of (a .t1) (a .task) .body) sizes cells in
-    call-refused «end» (a .t1) (a .task) (done .result) (ordered (done .last .0) (a .t1 .left) (a .t1)) (done .ensures (a .t1) refl refl fits) (c .before .answer .given .0 .0) (c .before .answer .given .1)
+    call-refused «end» (a .t1) (a .task) (done .result) (ordered (done .last .0) (a .t1 .left) (parts-of (a .t1))) (done .ensures (parts-of (a .t1)) refl refl fits) (c .before .answer .given .0 .0) (c .before .answer .given .1)
 
 -- src/calls.rt:182:5
 returns-3 : tie.Need-returns-3
@@ -89,7 +90,7 @@ returns-3 c =
     let cells = length-lowered (the-cell .to) (a .t1 .tables .cells) 1024 (c .before .before .before .before .before .before .before .before .before .before .before .before .before .before .before .good .0 .1 .1 .0 .1 .1 .1 .1 .1 .1 .1 .1 .0 .1 .0 .1) in
     let fits : c .before .before .before .before .before .before .before .row-size .result ≡ length (body-of (list-of (a .t1 .tables)) (record-of (a .t1) (a .task) .body)) =
     c .before .before .before .before .before .before .before .row-size .ensures .0 ∙ body-size-is (a .t1 .tables) (record-of (a .t1) (a .task) .body) sizes cells in
-    call-accepted «end» (a .t1) (a .task) (done .result) (ordered (done .last .0) (a .t1 .left) (a .t1)) (done .ensures (a .t1) refl refl fits) (c .before .before .before .enum-told .given .1)
+    call-accepted «end» (a .t1) (a .task) (done .result) (ordered (done .last .0) (a .t1 .left) (parts-of (a .t1))) (done .ensures (parts-of (a .t1)) refl refl fits) (c .before .before .before .enum-told .given .1)
     (c .before .wrapping-add-u32 .result) (c .wrapping-add-u322 .result) (c .before .wrapping-add-u32 .ensures) (c .wrapping-add-u322 .ensures)
 
 pub end-spec : {M : Type 1} → statement M

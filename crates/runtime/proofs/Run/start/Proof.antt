@@ -1,12 +1,13 @@
 use mathlib.Core.Path.{refl}
 use Rattle.semantics.specs.Plan.{start}
-use Rattle.runtime.proofs.ChangeLaws.{call-refused, call-accepted}
+use Rattle.runtime.specs.View.{parts-of}
+use Rattle.runtime.proofs.MethodLaws.{call-refused, call-accepted}
 use borrow.Author.Needs.{needs}
 use Rattle.runtime.proofs.Run.start.Statement.{statement}
 use Rattle.runtime.proofs.Run.start.Tie as tie
 use Rattle.runtime.proofs.Run.start.Reads as reads
 use Rattle.runtime.proofs.Run.start.Lts as lts
-use Rattle.runtime.proofs.calls.start_change.Reads as start-change-reads
+use Rattle.changes.proofs.start_change.Reads as start-change-reads
 use Rattle.std.proofs.num.wrapping_add_u32.Reads as wrapping-add-u32-reads
 
 out-of-range-requires : tie.Need-out-of-range-requires
@@ -56,14 +57,14 @@ returns-2 : tie.Need-returns-2
 returns-2 c =
     let a = c .before .before .before .before .before .before .before .before .before .before .args in
     let done = c .before .before .before .start-change in
-    call-refused start (a .t1) (a .task) (done .result) (a .t1) (done .ensures (a .t1) refl refl) (c .before .answer .given .0 .0) (c .before .answer .given .1)
+    call-refused start (a .t1) (a .task) (done .result) (parts-of (a .t1)) (done .ensures (parts-of (a .t1)) refl refl) (c .before .answer .given .0 .0) (c .before .answer .given .1)
 
 -- src/calls.rt:147:5
 returns-3 : tie.Need-returns-3
 returns-3 c =
     let a = c .before .before .before .before .before .before .before .before .before .before .before .before .args in
     let done = c .before .before .before .before .before .start-change in
-    call-accepted start (a .t1) (a .task) (done .result) (a .t1) (done .ensures (a .t1) refl refl) (c .before .before .before .enum-told .given .1) (c .before .wrapping-add-u32 .result)
+    call-accepted start (a .t1) (a .task) (done .result) (parts-of (a .t1)) (done .ensures (parts-of (a .t1)) refl refl) (c .before .before .before .enum-told .given .1) (c .before .wrapping-add-u32 .result)
     (c .wrapping-add-u322 .result) (c .before .wrapping-add-u32 .ensures) (c .wrapping-add-u322 .ensures)
 
 pub start-spec : {M : Type 1} → statement M

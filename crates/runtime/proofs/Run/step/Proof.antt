@@ -3,8 +3,8 @@
 use Prim.Native.Nat.{_+_, _-_, _*_, _<_}
 use native.Mathlib.Omega.{arith}
 use Rattle.semantics.specs.Plan.{step}
-use Rattle.runtime.proofs.ChangeLaws.{ChildrenLeft, children-all, child-written, children-written}
-use Rattle.runtime.proofs.StepChangeLaws.{stepped-refused, stepped-taken}
+use Rattle.steps.proofs.ChildrenLaws.{ChildrenLeft, children-all, child-written, children-written}
+use Rattle.runtime.proofs.MethodLaws.{stepped-refused, stepped-taken}
 use borrow.Author.Needs.{needs}
 use Rattle.runtime.proofs.Run.step.Statement.{statement}
 use Rattle.runtime.proofs.Run.step.Tie as tie

@@ -8,9 +8,9 @@ use Rattle.tasklist.proofs.PlaceLaws.{length-lowered}
 use Rattle.listing.proofs.AccessLaws.{body-size-is}
 use Rattle.semantics.specs.Run.{task-of}
 use Rattle.semantics.specs.Plan.{at-end}
-use Rattle.runtime.specs.View.{model, context-of, SoundRun}
+use Rattle.runtime.specs.View.{parts-of, model, context-of, SoundRun}
 use Rattle.runtime.specs.Parts.{record-of}
-use Rattle.runtime.proofs.ChangeLaws.{ends}
+use Rattle.looks.proofs.LookLaws.{ends}
 use Rattle.sequence.specs.Replays.{joined}
 use Rattle.sequence.proofs.SequentialLaws.{onward, start-joined, step-joined, makes-joined, end-joined, Writing, writing-all, writing-one, writing-done, enough-steps, StepsLeft, steps-all, EachLeft, each-all, each-one, turn-ended, turn-taken, whole-none, whole-spent}
 use borrow.Author.Needs.{needs}
@@ -20,11 +20,11 @@ use Rattle.sequence.proofs.whole.run_whole.Reads as run-whole
 use Rattle.sequence.proofs.whole.run_whole.Kinds as run-whole-kinds
 use Rattle.sequence.proofs.whole.+run_whole.Lts-run_whole as run-whole-lts
 use Rattle.listing.proofs.row_size.Reads as row-size-reads
-use Rattle.runtime.proofs.at_end.Reads as at-end-reads
-use Rattle.runtime.proofs.end_change.Reads as end-change-reads
-use Rattle.runtime.proofs.start_change.Reads as start-change-reads
+use Rattle.looks.proofs.at_end.Reads as at-end-reads
+use Rattle.changes.proofs.end_change.Reads as end-change-reads
+use Rattle.changes.proofs.start_change.Reads as start-change-reads
 use Rattle.records.proofs.child_record.Reads as child-record-reads
-use Rattle.runtime.proofs.step_change.Reads as step-change-reads
+use Rattle.steps.proofs.step_change.Reads as step-change-reads
 use Rattle.std.proofs.num.wrapping_add_u32.Reads as wrapping-add-u32-reads
 use Rattle.sequence.proofs.whole.+run_whole.{statement}
 use Rattle.sequence.proofs.whole.+run_whole.Tie.{close}
@@ -640,7 +640,7 @@ run-whole-loop-again t c =
     let size2 = c .before .before .row-size2 in
     let at = c .before .at-end in
     let there : SoundRun r → at .result ≡ at-end (context-of r) (task-of (model r) (a .task)) =
-    λ s. at .ensures ∙ ends r (a .task) (size2 .result) (record-of r (a .task)) (c .before .before .before .before .before .before .before .before .before .before .before .before .before .before .before .before .before .before .before .before .before .pre .1) refl (size2 .ensures .0 ∙ body-size-is (a .t1) (record-of r (a .task) .body) sizes cells) s in
+    λ s. at .ensures ∙ ends (parts-of r) (a .task) (size2 .result) (record-of r (a .task)) (c .before .before .before .before .before .before .before .before .before .before .before .before .before .before .before .before .before .before .before .before .before .pre .1) refl (size2 .ensures .0 ∙ body-size-is (a .t1) (record-of r (a .task) .body) sizes cells) s in
     turn-ended (a .bodies) (a .task) limit from (l .steps) r (l .inv) (at .result) there (c .if2 .taken)
 
 run-whole-cast-step-change : (t : ℕ) → run-whole-lts.Need-cast-step-change (
@@ -1221,7 +1221,7 @@ run-whole-loop-again-2 t c =
     let size2 = c .before .before .before .before .before .before .before .before .before .before .before .before .before .before .row-size2 in
     let at = c .before .before .before .before .before .before .before .before .before .before .before .before .before .at-end in
     let there : SoundRun r → at .result ≡ at-end (context-of r) (task-of (model r) (a .task)) =
-    λ s. at .ensures ∙ ends r (a .task) (size2 .result) (record-of r (a .task)) (c .before .before .before .before .before .before .before .before .before .before .before .before .before .before .before .before .before .before .before .before .before .before .before .before .before .before .before .before .before .before .before .before .before .pre .1) refl (size2 .ensures .0 ∙ body-size-is (a .t1) (record-of r (a .task) .body) sizes cells) s in
+    λ s. at .ensures ∙ ends (parts-of r) (a .task) (size2 .result) (record-of r (a .task)) (c .before .before .before .before .before .before .before .before .before .before .before .before .before .before .before .before .before .before .before .before .before .before .before .before .before .before .before .before .before .before .before .before .before .pre .1) refl (size2 .ensures .0 ∙ body-size-is (a .t1) (record-of r (a .task) .body) sizes cells) s in
     let stepping = c .before .before .before .before .before .before .before .before .step-change in
     let step = stepping .result in
     let calls2 = c .before .before .before .before .before .before .wrapping-add-u323 in

@@ -1,0 +1,2 @@
+-- Laws of the looks.
+pub mod LookLaws

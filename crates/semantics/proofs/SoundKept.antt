@@ -13,7 +13,7 @@ use Rattle.tasklist.specs.Accepted.{Accepted}
 use Rattle.semantics.specs.Run.{Task, Run, Context, never, task-of, weight-of}
 use Rattle.semantics.specs.Effect.{Edit, keep, put, add, Numbered, Effect, Plan, stop, go, fetch}
 use Rattle.semantics.specs.Plan.{plan}
-use Rattle.semantics.specs.Call.{Call, among, edited, written, stays, places, charged, changes, apply, call, or-same, after, after-all}
+use Rattle.semantics.specs.Call.{Call, among, sum-of, edited, written, stays, places, charged, changes, apply, call, or-same, after, after-all}
 use Rattle.semantics.specs.Sound.{In, TaskSound, rank, Sound}
 use Rattle.semantics.proofs.Order.{in-left, in-right, among-in, in-among, splice-keep, splice-new}
 use Rattle.semantics.proofs.Modes.{getD-set-cases}
@@ -21,7 +21,7 @@ use Rattle.semantics.proofs.Apply.{numbers, touched, in-numbers, number
 use Rattle.semantics.proofs.Decide.{Settled, Accepts, call-accept}
 use Rattle.semantics.proofs.Valid.{made-absent, made-is-future, made-below, made-record, touched-distinct}
 use Rattle.semantics.proofs.Kept.{self-record, valid-kept}
-use Rattle.semantics.proofs.SoundPlan.{SmallEdit, wrapped, EffectSound, PlanSound, plan-sound}
+use Rattle.semantics.proofs.SoundPlan.{SmallEdit, EffectSound, PlanSound, plan-sound}
 use Rattle.semantics.proofs.Ranks.{total-set, total-made}
 
 -- Whose record a number names after a call of n.
@@ -63,6 +63,10 @@ edited-length keep m = refl
 edited-length (put a v) m = length-set m a v
 edited-length (add a v) m = length-set m a _
 
+-- "modulo 2^32"
+sum-small : (x v : ℕ) → sum-of x v < 2 ^ 32
+sum-small x v = omega arith
+
 set-small :
     (m : List ℕ) (b v : ℕ) → v < 2 ^ 32 → ((a : ℕ) → getD m a 0 < 2 ^ 32) → (a : ℕ) → getD (set m b v) a 0 < 2 ^ 32
 set-small m b v s h a = sort (getD-set-cases m b v a 0)
@@ -76,7 +80,7 @@ edited-small :
 unfolding edited
 edited-small keep m s h a = h a
 edited-small (put b v) m s h a = set-small m b v s h a
-edited-small (add b v) m s h a = set-small m b _ (wrapped (getD m b 0 + v)) h a
+edited-small (add b v) m s h a = set-small m b (sum-of (getD m b 0) v) (sum-small (getD m b 0) v) h a
 
 module _ (c : Context) (ok : Accepted (c .list)) (most : ℕ) (light : (place : ℕ) → 16 * weight-of c place ≤ most) where
   module _ (r : Run) (s : Sound c most r) (b : Call) (e : Effect) (h : Accepts c r b e) where

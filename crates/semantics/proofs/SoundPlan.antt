@@ -57,7 +57,7 @@ PlanSound c most t (stop k) = Unit {0}
 PlanSound c most t (go gs e) = EffectSound c most t e
 PlanSound c most t (fetch a f) = (v : ℕ) → v < 2 ^ 32 → EffectSound c most t (f v)
 
-pub wrapped : (x : ℕ) → wrap x < 2 ^ 32
+wrapped : (x : ℕ) → wrap x < 2 ^ 32
 wrapped x = mod-lt x (omega arith)
 
 passed-most : (x b : ℕ) → passed-over x b ≤ b

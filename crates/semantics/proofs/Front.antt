@@ -1,6 +1,6 @@
 -- The foremost task is never held back: whatever its own record lets through is accepted; and what its start, its steps and
 -- its end do. Assumes nothing.
-use Prim.Native.Nat.{ℕ, zero, suc, _<_}
+use Prim.Native.Nat.{ℕ, zero, suc, _*_, _<_}
 use mathlib.Core.Path.{_≡_, refl, sym, ap, subst, _∙_}
 use mathlib.Core.List.{List, [], _∷_, _++_, append-assoc}
 use mathlib.Core.Bool.{Bool, true, false, _||_}
@@ -10,14 +10,14 @@ use lib.ListN.{length, getD}
 use lib.Dec.{leb}
 use borrow.Author.Tests.{eq-eqb, ne-eqb}
 use Rattle.tasklist.specs.declared.Instruction.{Instruction}
-use Rattle.tasklist.specs.declared.Instruction.the-variants.{Const, Add, Sub, Less, Load, Store, Skip, Spawn, Wait, Fan, Sum}
+use Rattle.tasklist.specs.declared.Instruction.the-variants.{Const, Add, Sub, Less, Load, Store, Skip, Spawn, Wait, Fan, Sum, Mul, Div}
 use Rattle.tasklist.specs.declared.Line.{Line}
 use Rattle.tasklist.specs.TaskList.{body-of, footprint-of}
 use Rattle.semantics.specs.Run.{Task, Run, Context, mode-of, register, no-modes, start-weight, end-weight, task-of}
 use Rattle.semantics.specs.Access.{Access, reads, every, ahead, allowed, access-fault}
 use Rattle.semantics.specs.Effect.{Effect, Plan, stop, go, fetch, own, in-state, moved, faulted, leaving}
 use Rattle.semantics.specs.Footprint.{Grant, denied, granted, unless-denied, grant, child-modes, all-targets, Children, none-made, all-made, children, fan-of}
-use Rattle.semantics.specs.Plan.{unless-fault, plan-load, plan-store, plan-wait, plan-sum, plan-make, plan-instruction, at-end, needs-from, plan-start, plan-step, plan-end, start, step, end, plan}
+use Rattle.semantics.specs.Plan.{unless-fault, plan-load, plan-store, plan-wait, plan-sum, quotient-fault, plan-quotient, plan-make, plan-instruction, at-end, needs-from, plan-start, plan-step, plan-end, start, step, end, plan}
 use Rattle.semantics.specs.Call.{splice, stays, places, apply}
 use Rattle.semantics.specs.Sound.{In, Distinct}
 use Rattle.semantics.proofs.Order.{in-every, splice-same, splice-absent, ahead-self}
@@ -91,7 +91,7 @@ module _ (c : Context) (n : ℕ) (t : Task) where
   stepping-make w s k (all-made ts) h = record { remains = refl; moves = inl (omega arith) }
 
   pub stepping : (w : ℕ) (i : Instruction) → Stepping c t (plan-instruction c w n t i)
-  unfolding plan-instruction plan-load plan-store plan-wait plan-sum
+  unfolding plan-instruction plan-load plan-store plan-wait plan-sum plan-quotient
   stepping w (Const a v) = onward w 1 _ (omega arith)
   stepping w (Add a x y) = onward w 1 _ (omega arith)
   stepping w (Sub a x y) = onward w 1 _ (omega arith)
@@ -105,6 +105,8 @@ module _ (c : Context) (n : ℕ) (t : Task) where
   stepping w (Fan s f k) = stepping-make w s _ (children s (footprint-of (c .list) f) (fan-of 0 k t)) (children-faulty s (footprint-of (c .list) f) (fan-of 0 k t))
   stepping w (Sum a x) =
       stepping-unless (access-fault (mode-of t (register t a)) 3) w _ (record { remains = refl; moves = inl (omega arith) })
+  stepping w (Mul a x y) = stepping-unless (quotient-fault (register t x * register t y) 1000) w _ (onward w 1 _ (omega arith))
+  stepping w (Div a x y) = stepping-unless (quotient-fault (1000 * register t x) (register t y)) w _ (onward w 1 _ (omega arith))
 
   pub stepping-plan : Ready c t step → Stepping c t (plan c step n t)
   unfolding plan plan-step

@@ -1,7 +1,7 @@
 -- Request 108: "The rounding is one fact, shown for every divisor and used by both codes." A quotient is rounded to the nearest
 -- whole number, halves upward, and to no other; then which quotients fault, and that what both codes compute on the way fits 64
 -- bits. Assumes nothing.
-use Prim.Native.Nat.{ℕ, _+_, _-_, _*_, _/_, _%_, _^_, _<_, _≤_}
+use Prim.Native.Nat.{ℕ, _+_, _-_, _*_, _/_, _^_, _<_, _≤_}
 use mathlib.Core.Path.{_≡_, refl, sym, subst}
 use mathlib.Core.Bool.{Bool, true, false, cond}
 use native.Mathlib.Omega.{arith}
@@ -11,7 +11,16 @@ use borrow.Author.Tests.{ltb-true, ltb-false, lt-ltb, le-ltb, eq-eqb, ne-eqb}
 use Rattle.semantics.specs.Rounding.{rounded, distance, Nearest}
 use Rattle.semantics.specs.Plan.{quotient-fault}
 
--- q and the remainder are what (n + d / 2) / d leaves; p is any other number
+-- the exact value is at most a half below, and less than a half above
+rounded-low : (n d : ℕ) → rounded n d * d ≤ n + d / 2
+unfolding rounded
+rounded-low n d = omega (arith, div-add-mod' (n + d / 2) d)
+
+rounded-high : (n d : ℕ) → 0 < d → n + d / 2 < rounded n d * d + d
+unfolding rounded
+rounded-high n d h = omega (arith, div-add-mod' (n + d / 2) d, mod-lt (n + d / 2) h)
+
+-- then any other number is as far at least
 module _ (n d q : ℕ) (low : q * d ≤ n + d / 2) (high : n + d / 2 < q * d + d) where
   -- one below or less is not nearer
   lower : (p : ℕ) → p < q → distance n d q ≤ distance n d p
@@ -27,20 +36,16 @@ module _ (n d q : ℕ) (low : q * d ≤ n + d / 2) (high : n + d / 2 < q * d + d
 
 -- "shown for every divisor"
 pub rounded-nearest : (n d : ℕ) → 0 < d → Nearest n d (rounded n d)
-unfolding rounded
 rounded-nearest n d h = record { nearest = nearest; upward = upward }
   where
     q : ℕ
-    q = (n + d / 2) / d
-
-    whole : q * d + (n + d / 2) % d ≡ n + d / 2
-    whole = div-add-mod' (n + d / 2) d
+    q = rounded n d
 
     low : q * d ≤ n + d / 2
-    low = omega (arith, whole)
+    low = rounded-low n d
 
     high : n + d / 2 < q * d + d
-    high = omega (arith, whole, mod-lt (n + d / 2) h)
+    high = rounded-high n d h
 
     -- p is lower, the same or higher
     nearest : (p : ℕ) → distance n d q ≤ distance n d p

@@ -119,6 +119,10 @@ module _ (c : Context) (n : ℕ) (t : Task) where
   fair-unless zero w p s h = h refl
   fair-unless (suc k) w p s h = (fair-faulted w (suc k) s, tt)
 
+  fair-quotient : (w a m d : ℕ) → t .state ≡ 2 → FairPlan c n t (plan-quotient w t a m d)
+  unfolding plan-quotient
+  fair-quotient w a m d s = fair-unless (quotient-fault m d) w _ s (λ _. (fair-moved w 1 _ s, tt))
+
   fair-cond :
       (b : Bool) (p q : Plan) → (b ≡ true → FairPlan c n t p) → (b ≡ false → FairPlan c n t q)
       → FairPlan c n t (cond b p q)
@@ -196,7 +200,7 @@ module _ (c : Context) (n : ℕ) (t : Task) where
   fair-instruction :
       (ok : Accepted (c .list)) (w : ℕ) → t .state ≡ 2 → t .pc < length (body-of (c .list) (t .body))
       → (i : Instruction) → instruction-of (c .list) (t .body) (t .pc) ≡ i → FairPlan c n t (plan-instruction c w n t i)
-  unfolding plan-instruction plan-load plan-store plan-wait plan-sum plan-quotient
+  unfolding plan-instruction plan-load plan-store plan-wait plan-sum
   fair-instruction ok w s h (Const a v) q = (fair-moved w 1 _ s, tt)
   fair-instruction ok w s h (Add a x y) q = (fair-moved w 1 _ s, tt)
   fair-instruction ok w s h (Sub a x y) q = (fair-moved w 1 _ s, tt)
@@ -224,10 +228,8 @@ module _ (c : Context) (n : ℕ) (t : Task) where
   fair-instruction ok w s h (Sum a x) q =
       fair-unless (access-fault (mode-of t (register t a)) 3) w _ s
       (λ f. (fair-edit w (add (register t a) (register t x)) s, (inl refl, f)))
-  fair-instruction ok w s h (Mul a x y) q =
-      fair-unless (quotient-fault (register t x * register t y) 1000) w _ s (λ _. (fair-moved w 1 _ s, tt))
-  fair-instruction ok w s h (Div a x y) q =
-      fair-unless (quotient-fault (1000 * register t x) (register t y)) w _ s (λ _. (fair-moved w 1 _ s, tt))
+  fair-instruction ok w s h (Mul a x y) q = fair-quotient w a _ _ s
+  fair-instruction ok w s h (Div a x y) q = fair-quotient w a _ _ s
 
   pub not-at-end : at-end c t ≡ false → t .pc < length (body-of (c .list) (t .body))
   unfolding at-end

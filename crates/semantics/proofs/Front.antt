@@ -1,6 +1,6 @@
 -- The foremost task is never held back: whatever its own record lets through is accepted; and what its start, its steps and
 -- its end do. Assumes nothing.
-use Prim.Native.Nat.{ℕ, zero, suc, _*_, _<_}
+use Prim.Native.Nat.{ℕ, zero, suc, _<_}
 use mathlib.Core.Path.{_≡_, refl, sym, ap, subst, _∙_}
 use mathlib.Core.List.{List, [], _∷_, _++_, append-assoc}
 use mathlib.Core.Bool.{Bool, true, false, _||_}
@@ -84,6 +84,10 @@ module _ (c : Context) (n : ℕ) (t : Task) where
   stepping-unless zero w p h = h
   stepping-unless (suc k) w p h = onward-fault w (suc k) (λ q. not-zero k q)
 
+  stepping-quotient : (w a m d : ℕ) → Stepping c t (plan-quotient w t a m d)
+  unfolding plan-quotient
+  stepping-quotient w a m d = stepping-unless (quotient-fault m d) w _ (onward w 1 _ (omega arith))
+
   stepping-make :
       (w s k : ℕ) (ys : Children) → Made (λ f. f ≡ 0 → ⊥) (λ _. Unit {0}) k ys → Stepping c t (plan-make c w n t s ys)
   unfolding plan-make
@@ -91,7 +95,7 @@ module _ (c : Context) (n : ℕ) (t : Task) where
   stepping-make w s k (all-made ts) h = record { remains = refl; moves = inl (omega arith) }
 
   pub stepping : (w : ℕ) (i : Instruction) → Stepping c t (plan-instruction c w n t i)
-  unfolding plan-instruction plan-load plan-store plan-wait plan-sum plan-quotient
+  unfolding plan-instruction plan-load plan-store plan-wait plan-sum
   stepping w (Const a v) = onward w 1 _ (omega arith)
   stepping w (Add a x y) = onward w 1 _ (omega arith)
   stepping w (Sub a x y) = onward w 1 _ (omega arith)
@@ -105,8 +109,8 @@ module _ (c : Context) (n : ℕ) (t : Task) where
   stepping w (Fan s f k) = stepping-make w s _ (children s (footprint-of (c .list) f) (fan-of 0 k t)) (children-faulty s (footprint-of (c .list) f) (fan-of 0 k t))
   stepping w (Sum a x) =
       stepping-unless (access-fault (mode-of t (register t a)) 3) w _ (record { remains = refl; moves = inl (omega arith) })
-  stepping w (Mul a x y) = stepping-unless (quotient-fault (register t x * register t y) 1000) w _ (onward w 1 _ (omega arith))
-  stepping w (Div a x y) = stepping-unless (quotient-fault (1000 * register t x) (register t y)) w _ (onward w 1 _ (omega arith))
+  stepping w (Mul a x y) = stepping-quotient w a _ _
+  stepping w (Div a x y) = stepping-quotient w a _ _
 
   pub stepping-plan : Ready c t step → Stepping c t (plan c step n t)
   unfolding plan plan-step

@@ -278,8 +278,8 @@ module _
         (refl, registers-set (t .registers) 0 (v .0) (h .registers) (omega (arith, v .2, fits .1)))))
     instruction-sound w m (Sum a x) q =
         access-or (mode-of t (register t a)) 3 w _ m (edit-sound w (add (register t a) (register t x)) m tt)
-    instruction-sound w m (Mul a x y) q = quotient-sound w a (register t x * register t y) 1000 m
-    instruction-sound w m (Div a x y) q = quotient-sound w a (1000 * register t x) (register t y) m
+    instruction-sound w m (Mul a x y) q = quotient-sound w a _ _ m
+    instruction-sound w m (Div a x y) q = quotient-sound w a _ _ m
 
 -- a step weighs its code's number at most 16 times
 units-most : (at : Scope) (i : Instruction) → instruction-ok at i ≡ true → units i ≤ 16

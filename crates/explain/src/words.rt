@@ -94,6 +94,24 @@ pub fn say_instruction(instruction: Instruction) {
             say_byte(b"sum entry R", place);
             say_byte(b" + R", source);
         }
+        Instruction::Mul {
+            target,
+            left,
+            right,
+        } => {
+            say(b"mul ");
+            say_three(target, left, b" * ", right);
+            say(b" / 1000");
+        }
+        Instruction::Div {
+            target,
+            left,
+            right,
+        } => {
+            say_byte(b"div R", target);
+            say_byte(b" := 1000 * R", left);
+            say_byte(b" / R", right);
+        }
     }
 }
 

@@ -11,7 +11,7 @@ use lib.ListN.{length, take, getD, List·getD-eq-default}
 use lib.Seq.{take-length}
 use borrow.Author.Tests.{lt-ltb, ltb-true, ltb-false}
 use Rattle.tasklist.specs.declared.Instruction.{Instruction}
-use Rattle.tasklist.specs.declared.Instruction.the-variants.{Const, Add, Sub, Less, Load, Store, Skip, Spawn, Wait, Fan, Sum}
+use Rattle.tasklist.specs.declared.Instruction.the-variants.{Const, Add, Sub, Less, Load, Store, Skip, Spawn, Wait, Fan, Sum, Mul, Div}
 use Rattle.tasklist.specs.declared.Tables.{Tables}
 use Rattle.tasklist.specs.TaskList.{TaskList, body-of, instruction-of, blank-instruction, total, adds, count-body, task-count}
 use Rattle.tasklist.specs.Tables.{list-of, capped, Holds}
@@ -89,6 +89,8 @@ module _ (t : Tables) (l : TaskList) (holds : Holds t l) (ok : Accepted l) (k : 
   child levels d j r (Skip a b) h here low high q more = let z : ⊥ = omega arith in absurd z
   child levels d j r (Wait a) h here low high q more = let z : ⊥ = omega arith in absurd z
   child levels d j r (Sum a b) h here low high q more = let z : ⊥ = omega arith in absurd z
+  child levels d j r (Mul a b c) h here low high q more = let z : ⊥ = omega arith in absurd z
+  child levels d j r (Div a b c) h here low high q more = let z : ⊥ = omega arith in absurd z
   child levels d j r (Spawn a b) h here low high q more =
       let names = spawn-names l ok (j .body) r here a b q in
       record {

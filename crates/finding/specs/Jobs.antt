@@ -4,7 +4,7 @@ use mathlib.Core.Bool.{Bool, cond}
 use lib.Dec.{ltb}
 use lib.ListN.{length, take, getD}
 use Rattle.tasklist.specs.declared.Instruction.{Instruction}
-use Rattle.tasklist.specs.declared.Instruction.the-variants.{Const, Add, Sub, Less, Load, Store, Skip, Spawn, Wait, Fan, Sum}
+use Rattle.tasklist.specs.declared.Instruction.the-variants.{Const, Add, Sub, Less, Load, Store, Skip, Spawn, Wait, Fan, Sum, Mul, Div}
 use Rattle.tasklist.specs.declared.Tables.{Tables}
 use Rattle.tasklist.specs.TaskList.{body-of, instruction-of, total, adds}
 use Rattle.tasklist.specs.Tables.{list-of}
@@ -54,6 +54,8 @@ made t j i n k d (Spawn a b) = child-of j i n d a b 0
 made t j i n k d (Wait a) = j
 made t j i n k d (Fan a b c) = fanned t k (child-of j i n d a b c)
 made t j i n k d (Sum a b) = j
+made t j i n k d (Mul a b c) = j
+made t j i n k d (Div a b c) = j
 
 -- the first place whose block ends above k
 unfoldable pub place-of : Tables → Job → ℕ → ℕ

@@ -121,6 +121,16 @@ fn made_by(
             place: _,
             source: _,
         } => job,
+        Instruction::Mul {
+            target: _,
+            left: _,
+            right: _,
+        } => job,
+        Instruction::Div {
+            target: _,
+            left: _,
+            right: _,
+        } => job,
     }
 }
 

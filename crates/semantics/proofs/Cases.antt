@@ -7,7 +7,7 @@ use mathlib.Core.Bool.{true}
 use lib.ListN.{length, replicate}
 use Rattle.tasklist.specs.declared.Line.{Line}
 use Rattle.tasklist.specs.declared.Instruction.{Instruction}
-use Rattle.tasklist.specs.declared.Instruction.the-variants.{Const, Sub, Load, Store, Skip, Spawn, Wait, Fan, Sum}
+use Rattle.tasklist.specs.declared.Instruction.the-variants.{Const, Sub, Load, Store, Skip, Spawn, Wait, Fan, Sum, Mul, Div}
 use Rattle.tasklist.specs.TaskList.{TaskList, body-of, footprint-of, instruction-of, total, adds, count-body, count-from, counts, task-count}
 use Rattle.tasklist.specs.Fields.{field, is-tag, tag, in-range, number, counted, many, row}
 use Rattle.tasklist.specs.Decode.{head-numbers, head, line-limit, line-ok, is-line, line, footprint, forms, form, spawn-ok, instruction-ok, is-instruction, instruction, body, list-behind, sized, finish, empty-list, decode}
@@ -18,7 +18,8 @@ use Rattle.semantics.specs.Run.{no-modes, never, fixed-weights, weight-p
 use Rattle.semantics.specs.Access.{every, any, only, ahead, queue, behind-writer, compatible, allowed, access-fault, reads, writes, sums}
 use Rattle.semantics.specs.Effect.{numbered-from}
 use Rattle.semantics.specs.Footprint.{targets, all-targets, merged, unless-denied, grant, child-modes, with-first, children, fan-of}
-use Rattle.semantics.specs.Plan.{unless-fault, plan-load, plan-store, plan-wait, plan-sum, passed-over, child-number, plan-make, plan-instruction, units, step-weight, at-end, needs-from, plan-start, plan-step, plan-end, plan}
+use Rattle.semantics.specs.Rounding.{rounded}
+use Rattle.semantics.specs.Plan.{unless-fault, plan-load, plan-store, plan-wait, plan-sum, passed-over, quotient-fault, plan-quotient, child-number, plan-make, plan-instruction, units, step-weight, at-end, needs-from, plan-start, plan-step, plan-end, plan}
 use Rattle.semantics.specs.Call.{Call, hold, admit, settle, among, decide, edited, written, splice, stays, places, changes, apply, taken, call, after, after-all}
 use Rattle.semantics.specs.Search.{search-from, search, hold-number}
 use Rattle.semantics.specs.Sequential.{start-of, step-of, end-of, run-each, step-through, steps-through, enough, run-whole, sequential}
@@ -134,6 +135,24 @@ abbrev sum-bytes : ℕ → ℕ → ℕ → ℕ → ℕ → List ℕ
 sum-bytes kind value a b c =
     0x4A ∷ 0x48 ∷ 2 ∷ 1 ∷ 1 ∷ 0x4A ∷ 0x46 ∷ 1 ∷ kind ∷ value ∷ 0x4A ∷ 0x42 ∷ 1 ∷ 10 ∷ a ∷ b ∷ c ∷ []
 
+-- request 108: of the numbers at locations 0 and 1 the product or quotient, stored at location 1
+abbrev of-both : Instruction → TaskList
+of-both i = small ((Load 1 0 ∷ Const 0 1 ∷ Load 2 0 ∷ i ∷ Store 0 3 ∷ []) ∷ [])
+
+-- this is what the step leaves there
+abbrev gives-number : Instruction → ℕ → ℕ → ℕ → Case
+gives-number i x y v = by-hand (of-both i) (x ∷ y ∷ []) (memory-is (x ∷ v ∷ []) ∷ fault-is 0 0 ∷ calls-are 7 ∷ weight-is 19 ∷ [])
+
+-- the step faults with this number: no register or location changes, and the task is at its end
+abbrev gives-fault : Instruction → ℕ → ℕ → ℕ → Case
+gives-fault i x y k =
+    by-hand (of-both i) (x ∷ y ∷ [])
+    (memory-is (x ∷ y ∷ []) ∷ fault-is 0 k ∷ registers-are 0 (1 ∷ x ∷ y ∷ 0 ∷ []) ∷ calls-are 6 ∷ weight-is 15 ∷ [])
+
+-- the bytes of a list with this instruction
+abbrev step-bytes : ℕ → ℕ → ℕ → ℕ → List ℕ
+step-bytes code a b c = 0x4A ∷ 0x48 ∷ 2 ∷ 0 ∷ 1 ∷ 0x4A ∷ 0x42 ∷ 1 ∷ code ∷ a ∷ b ∷ c ∷ []
+
 -- a spawn behind a fan of two tasks, all of a body that fans out one task; no locations are asked for
 abbrev behind-fan : Instruction → TaskList
 behind-fan i =
@@ -164,7 +183,7 @@ tower more =
 
 -- a table of weights
 abbrev primes : List ℕ
-primes = 3 ∷ 5 ∷ 7 ∷ 11 ∷ 13 ∷ 17 ∷ 19 ∷ 23 ∷ 29 ∷ 31 ∷ 37 ∷ 41 ∷ 43 ∷ []
+primes = 3 ∷ 5 ∷ 7 ∷ 11 ∷ 13 ∷ 17 ∷ 19 ∷ 23 ∷ 29 ∷ 31 ∷ 37 ∷ 41 ∷ 43 ∷ 47 ∷ 53 ∷ []
 
 -- start 0, step 0, step 0
 abbrev opening : List Call
@@ -276,14 +295,15 @@ cases =
     -- "21 wrong length, 22 a number not in 1 to 1000", in this order and "After 8"; "Later codes lengthen it by one each."
     opens-with [] (5 ∷ []) fixed-weights 0 ∷
     opens-with [] (5 ∷ []) (replicate 12 1) 21 ∷
-    opens-with [] (5 ∷ []) (replicate 13 1) 0 ∷
     opens-with [] (5 ∷ []) (replicate 14 1) 21 ∷
-    opens-with [] (5 ∷ []) (replicate 13 1000) 0 ∷
-    opens-with [] (5 ∷ []) (replicate 12 1 ++ (0 ∷ [])) 22 ∷
-    opens-with [] (5 ∷ []) (1001 ∷ replicate 12 1) 22 ∷
-    opens-with [] (5 ∷ []) (replicate 14 0) 21 ∷
-    opens-with [] [] (replicate 14 0) 8 ∷
-    opens-with (tower (6 ∷ 6 ∷ [])) [] (replicate 14 0) 7 ∷
+    opens-with [] (5 ∷ []) (replicate 15 1) 0 ∷
+    opens-with [] (5 ∷ []) (replicate 16 1) 21 ∷
+    opens-with [] (5 ∷ []) (replicate 15 1000) 0 ∷
+    opens-with [] (5 ∷ []) (replicate 14 1 ++ (0 ∷ [])) 22 ∷
+    opens-with [] (5 ∷ []) (1001 ∷ replicate 14 1) 22 ∷
+    opens-with [] (5 ∷ []) (replicate 16 0) 21 ∷
+    opens-with [] [] (replicate 16 0) 8 ∷
+    opens-with (tower (6 ∷ 6 ∷ [])) [] (replicate 16 0) 7 ∷
     -- request 106: "An entry named twice now counts once: with the common mode, or with write where the modes differ.",
     -- whichever line is first, also by a register (R1 is 0) and in three lines
     shared (named 0 0 ∷ named 0 0 ∷ []) 257 ∷
@@ -349,6 +369,51 @@ cases =
     refused-with (sum-bytes 4 0 4 0 0) 5 ∷
     refused-with (sum-bytes 4 0 0 4 0) 5 ∷
     refused-with (sum-bytes 4 0 0 0 1) 5 ∷
+    -- request 108: "Code 11: Ra := Rb × Rc / 1000. .. round to the nearest whole number, halves upward, on the exact value": 0.499,
+    -- 0.5, 1.5, 2.5, 2.501
+    gives-number (Mul 3 1 2) 499 1 0 ∷
+    gives-number (Mul 3 1 2) 500 1 1 ∷
+    gives-number (Mul 3 1 2) 500 3 2 ∷
+    gives-number (Mul 3 1 2) 500 5 3 ∷
+    gives-number (Mul 3 1 2) 61 41 3 ∷
+    -- products above 32 bits; "Fault 4 is a result above 2^32 − 1": 4294967295.499 passes, 4294967295.5 does not
+    gives-number (Mul 3 1 2) 65536 65536 4294967 ∷
+    gives-number (Mul 3 1 2) 4294967295 1000 4294967295 ∷
+    gives-number (Mul 3 1 2) 61109 70283711 4294967295 ∷
+    gives-fault (Mul 3 1 2) 3500 1227133513 4 ∷
+    gives-fault (Mul 3 1 2) 4294967295 1001 4 ∷
+    gives-fault (Mul 3 1 2) 4294967295 4294967295 4 ∷
+    -- "fault 5, .. in code 12 only"
+    gives-number (Mul 3 1 2) 7 0 0 ∷
+    -- "Code 12: Ra := 1000 × Rb / Rc.": 333.3, 666.6, 0.5, 0.4998, 1.5, 2.5
+    gives-number (Div 3 1 2) 1 3 333 ∷
+    gives-number (Div 3 1 2) 2 3 667 ∷
+    gives-number (Div 3 1 2) 1 2000 1 ∷
+    gives-number (Div 3 1 2) 1 2001 0 ∷
+    gives-number (Div 3 1 2) 3 2000 2 ∷
+    gives-number (Div 3 1 2) 5 2000 3 ∷
+    gives-number (Div 3 1 2) 0 4294967295 0 ∷
+    -- 4294967295.499, 4294967295.501
+    gives-number (Div 3 1 2) 4294967295 1000 4294967295 ∷
+    gives-number (Div 3 1 2) 2194728288 511 4294967295 ∷
+    gives-fault (Div 3 1 2) 4200478015 978 4 ∷
+    gives-fault (Div 3 1 2) 4294967295 1 4 ∷
+    -- "fault 5, tested first .., is a zero Rc": also of a zero, and where any quotient would be too large
+    gives-fault (Div 3 1 2) 0 0 5 ∷
+    gives-fault (Div 3 1 2) 4294967295 0 5 ∷
+    -- their numbers in the table; a result in the register that is read
+    by-hand-under (encode (of-both (Mul 2 1 2))) (3 ∷ 500 ∷ []) primes (registers-are 0 (1 ∷ 3 ∷ 2 ∷ 0 ∷ []) ∷ calls-are 7 ∷ weight-is 123 ∷ []) ∷
+    by-hand-under (encode (of-both (Div 1 1 2))) (3 ∷ 2000 ∷ []) primes (registers-are 0 (1 ∷ 2 ∷ 2000 ∷ 0 ∷ []) ∷ calls-are 7 ∷ weight-is 129 ∷ []) ∷
+    -- three registers each; no code 13
+    tasks-in (step-bytes 11 3 3 3) 1 ∷
+    tasks-in (step-bytes 12 3 3 3) 1 ∷
+    refused-with (step-bytes 11 4 0 0) 5 ∷
+    refused-with (step-bytes 11 0 4 0) 5 ∷
+    refused-with (step-bytes 11 0 0 4) 5 ∷
+    refused-with (step-bytes 12 4 0 0) 5 ∷
+    refused-with (step-bytes 12 0 4 0) 5 ∷
+    refused-with (step-bytes 12 0 0 4) 5 ∷
+    refused-with (step-bytes 13 0 0 0) 5 ∷
     -- Besides those marked. "With P and input 00 00 01 00 01 00 00 02 it prints the lines 0, 0, 0, 12, 5, 7, `3 21 3`."
     -- With request 102 the fourth is 19.
     by-calls P (5 ∷ 7 ∷ []) (opening ++ (start-of 2 ∷ [])) (0 ∷ 0 ∷ 0 ∷ 19 ∷ [])
@@ -377,5 +442,5 @@ cases =
     (fault-is 2 2 ∷ order-is (1 ∷ 2 ∷ 0 ∷ []) ∷ []) ∷ []
 
 pub cases-hold : every holds cases ≡ true
-unfolding body-of footprint-of instruction-of total adds count-body count-from counts task-count field is-tag tag in-range number counted many row head-numbers head line-limit line-ok is-line line footprint forms form spawn-ok instruction-ok is-instruction instruction body list-behind sized finish decode Decode.register instruction-fields line-fields joined footprint-bytes body-bytes head-bytes encode no-modes never fixed-weights weight-places is-weight weight-of root-modes root initial every any only ahead queue behind-writer compatible allowed access-fault unless-fault plan-load plan-store plan-wait plan-sum passed-over targets all-targets merged unless-denied grant child-modes with-first children fan-of numbered-from child-number plan-make plan-instruction units step-weight at-end needs-from plan-start plan-step plan-end plan hold admit search-from search hold-number settle among decide edited written splice stays places changes apply taken call after after-all run-each step-through steps-through enough run-whole sequential with-weights with-list open-asked sequential-asked queue-places outcome-number same is-so answers has-tasks is-refused all-so asked-number holds
+unfolding body-of footprint-of instruction-of total adds count-body count-from counts task-count field is-tag tag in-range number counted many row head-numbers head line-limit line-ok is-line line footprint forms form spawn-ok instruction-ok is-instruction instruction body list-behind sized finish decode Decode.register instruction-fields line-fields joined footprint-bytes body-bytes head-bytes encode no-modes never fixed-weights weight-places is-weight weight-of root-modes root initial every any only ahead queue behind-writer compatible allowed access-fault unless-fault plan-load plan-store plan-wait plan-sum passed-over rounded quotient-fault plan-quotient targets all-targets merged unless-denied grant child-modes with-first children fan-of numbered-from child-number plan-make plan-instruction units step-weight at-end needs-from plan-start plan-step plan-end plan hold admit search-from search hold-number settle among decide edited written splice stays places changes apply taken call after after-all run-each step-through steps-through enough run-whole sequential with-weights with-list open-asked sequential-asked queue-places outcome-number same is-so answers has-tasks is-refused all-so asked-number holds
 cases-hold = refl

@@ -11,7 +11,7 @@ use lib.Seq.{take-add, drop-cons}
 use lib.Dec.{ltb, eqb}
 use borrow.Author.Tests.{ltb-true, leb-false, eqb-true}
 use Rattle.tasklist.specs.declared.Instruction.{Instruction}
-use Rattle.tasklist.specs.declared.Instruction.the-variants.{Const, Add, Sub, Less, Load, Store, Skip, Spawn, Wait, Fan, Sum}
+use Rattle.tasklist.specs.declared.Instruction.the-variants.{Const, Add, Sub, Less, Load, Store, Skip, Spawn, Wait, Fan, Sum, Mul, Div}
 use Rattle.tasklist.specs.TaskList.{blank-instruction, body-of, footprint-of, instruction-of, total, adds, task-count}
 use Rattle.tasklist.specs.Decode.{spawn-ok, instruction-ok}
 use Rattle.tasklist.specs.Accepted.{Accepted, scope-of}
@@ -19,7 +19,7 @@ use Rattle.semantics.specs.Run.{Task, Context, mode-of, register}
 use Rattle.semantics.specs.Access.{Access, writes, own-access, compatible, access-fault}
 use Rattle.semantics.specs.Effect.{Edit, keep, put, add, Numbered, Effect, Plan, stop, go, fetch, own, moved, faulted, numbered-from}
 use Rattle.semantics.specs.Footprint.{Grant, denied, granted, child-modes, Children, none-made, all-made, children, fan-of}
-use Rattle.semantics.specs.Plan.{unless-fault, plan-load, plan-store, plan-wait, plan-sum, child-number, plan-make, plan-instruction, at-end, plan-start, plan-step, plan-end, Action, start, step, end, plan}
+use Rattle.semantics.specs.Plan.{unless-fault, plan-load, plan-store, plan-wait, plan-sum, quotient-fault, plan-quotient, child-number, plan-make, plan-instruction, at-end, plan-start, plan-step, plan-end, Action, start, step, end, plan}
 use Rattle.semantics.specs.Sound.{In}
 use Rattle.semantics.proofs.Order.{and-left, and-right}
 use Rattle.semantics.proofs.Modes.{Under, GrantUnder, child-under}
@@ -118,6 +118,10 @@ module _ (c : Context) (n : ℕ) (t : Task) where
   unfolding unless-fault
   fair-unless zero w p s h = h refl
   fair-unless (suc k) w p s h = (fair-faulted w (suc k) s, tt)
+
+  fair-quotient : (w a m d : ℕ) → t .state ≡ 2 → FairPlan c n t (plan-quotient w t a m d)
+  unfolding plan-quotient
+  fair-quotient w a m d s = fair-unless (quotient-fault m d) w _ s (λ _. (fair-moved w 1 _ s, tt))
 
   fair-cond :
       (b : Bool) (p q : Plan) → (b ≡ true → FairPlan c n t p) → (b ≡ false → FairPlan c n t q)
@@ -224,6 +228,8 @@ module _ (c : Context) (n : ℕ) (t : Task) where
   fair-instruction ok w s h (Sum a x) q =
       fair-unless (access-fault (mode-of t (register t a)) 3) w _ s
       (λ f. (fair-edit w (add (register t a) (register t x)) s, (inl refl, f)))
+  fair-instruction ok w s h (Mul a x y) q = fair-quotient w a _ _ s
+  fair-instruction ok w s h (Div a x y) q = fair-quotient w a _ _ s
 
   pub not-at-end : at-end c t ≡ false → t .pc < length (body-of (c .list) (t .body))
   unfolding at-end

@@ -10,14 +10,14 @@ use lib.ListN.{length, getD}
 use lib.Dec.{leb}
 use borrow.Author.Tests.{eq-eqb, ne-eqb}
 use Rattle.tasklist.specs.declared.Instruction.{Instruction}
-use Rattle.tasklist.specs.declared.Instruction.the-variants.{Const, Add, Sub, Less, Load, Store, Skip, Spawn, Wait, Fan, Sum}
+use Rattle.tasklist.specs.declared.Instruction.the-variants.{Const, Add, Sub, Less, Load, Store, Skip, Spawn, Wait, Fan, Sum, Mul, Div}
 use Rattle.tasklist.specs.declared.Line.{Line}
 use Rattle.tasklist.specs.TaskList.{body-of, footprint-of}
 use Rattle.semantics.specs.Run.{Task, Run, Context, mode-of, register, no-modes, start-weight, end-weight, task-of}
 use Rattle.semantics.specs.Access.{Access, reads, every, ahead, allowed, access-fault}
 use Rattle.semantics.specs.Effect.{Effect, Plan, stop, go, fetch, own, in-state, moved, faulted, leaving}
 use Rattle.semantics.specs.Footprint.{Grant, denied, granted, unless-denied, grant, child-modes, all-targets, Children, none-made, all-made, children, fan-of}
-use Rattle.semantics.specs.Plan.{unless-fault, plan-load, plan-store, plan-wait, plan-sum, plan-make, plan-instruction, at-end, needs-from, plan-start, plan-step, plan-end, start, step, end, plan}
+use Rattle.semantics.specs.Plan.{unless-fault, plan-load, plan-store, plan-wait, plan-sum, quotient-fault, plan-quotient, plan-make, plan-instruction, at-end, needs-from, plan-start, plan-step, plan-end, start, step, end, plan}
 use Rattle.semantics.specs.Call.{splice, stays, places, apply}
 use Rattle.semantics.specs.Sound.{In, Distinct}
 use Rattle.semantics.proofs.Order.{in-every, splice-same, splice-absent, ahead-self}
@@ -84,6 +84,10 @@ module _ (c : Context) (n : ℕ) (t : Task) where
   stepping-unless zero w p h = h
   stepping-unless (suc k) w p h = onward-fault w (suc k) (λ q. not-zero k q)
 
+  stepping-quotient : (w a m d : ℕ) → Stepping c t (plan-quotient w t a m d)
+  unfolding plan-quotient
+  stepping-quotient w a m d = stepping-unless (quotient-fault m d) w _ (onward w 1 _ (omega arith))
+
   stepping-make :
       (w s k : ℕ) (ys : Children) → Made (λ f. f ≡ 0 → ⊥) (λ _. Unit {0}) k ys → Stepping c t (plan-make c w n t s ys)
   unfolding plan-make
@@ -105,6 +109,8 @@ module _ (c : Context) (n : ℕ) (t : Task) where
   stepping w (Fan s f k) = stepping-make w s _ (children s (footprint-of (c .list) f) (fan-of 0 k t)) (children-faulty s (footprint-of (c .list) f) (fan-of 0 k t))
   stepping w (Sum a x) =
       stepping-unless (access-fault (mode-of t (register t a)) 3) w _ (record { remains = refl; moves = inl (omega arith) })
+  stepping w (Mul a x y) = stepping-quotient w a _ _
+  stepping w (Div a x y) = stepping-quotient w a _ _
 
   pub stepping-plan : Ready c t step → Stepping c t (plan c step n t)
   unfolding plan plan-step

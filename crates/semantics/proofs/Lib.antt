@@ -19,6 +19,7 @@ pub mod Reached
 pub mod Guarantee
 pub mod Trace
 -- the definitions in document 01's words
+pub mod Rounding
 pub mod Wording
 pub mod Rules
 -- for the layer above

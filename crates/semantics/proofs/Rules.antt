@@ -1,20 +1,25 @@
--- Document 01's rules of start, load, store and wait, and request 107's of sum, in their own words, for the whole call: who is let through, who is held
--- back and with which number, and that faults come before waiting. Assumes nothing.
-use Prim.Native.Nat.{ℕ, suc, _<_, _≤_}
+-- Document 01's rules of start, load, store and wait, request 107's of sum and request 108's of mul and div, in their own words,
+-- for the whole call: who is let through, who is held back and with which number, and that faults come before waiting. Assumes
+-- nothing.
+use Prim.Native.Nat.{ℕ, suc, _*_, _^_, _<_, _≤_}
 use mathlib.Core.Path.{_≡_, refl, sym, subst, _∙_}
 use mathlib.Core.List.{[], _∷_}
 use mathlib.Core.Bool.{Bool, true, false, cond, _&&_, _||_}
+use native.Mathlib.Omega.{arith}
 use lib.ListN.{getD}
-use Rattle.semantics.specs.Run.{Run, Context, mode-of, task-of, start-weight}
+use Rattle.tasklist.specs.declared.Instruction.the-variants.{Mul, Div}
+use Rattle.semantics.specs.Run.{Run, Context, mode-of, register, task-of, start-weight}
 use Rattle.semantics.specs.Access.{Access, reads, writes, sums, every, any, may-read, may-write, may-sum, behind-writer, allowed, access-fault}
 use Rattle.semantics.specs.Effect.{Effect, own, in-state, moved, faulted, assigned, storing, adding}
-use Rattle.semantics.specs.Plan.{unless-fault, plan-load, plan-store, plan-wait, plan-sum, start}
+use Rattle.semantics.specs.Plan.{unless-fault, plan-load, plan-store, plan-wait, plan-sum, plan-quotient, plan-instruction, start}
+use Rattle.semantics.specs.Rounding.{Nearest}
 use Rattle.semantics.specs.Call.{refuse, accept, hold, admit, settle}
 use Rattle.semantics.specs.Sequential.{start-of}
 use Rattle.semantics.specs.Sound.{In}
 use Rattle.semantics.proofs.Modes.{not-zero}
 use Rattle.semantics.proofs.Decide.{Settled, Accepts, settled-ready}
 use Rattle.semantics.proofs.Front.{start-plan}
+use Rattle.semantics.proofs.Rounding.{is-rounded, zero-faults, large-faults, small-passes}
 use Rattle.semantics.proofs.SoundModes.{granted-queued}
 use Rattle.semantics.proofs.Wording.{read-wording, write-wording, sum-wording, MayStart, start-wording, wording-starts}
 
@@ -142,3 +147,56 @@ module _ (r : Run) (n w place : ℕ) where
       → settle r n (plan-wait w (task-of r n) place) ≡ accept (own w (faulted 1 (task-of r n)))
   unfolding plan-wait unless-fault settle access-fault
   wait-fault q = rw q (no-access r n _)
+
+-- Request 108: "Both round to the nearest whole number, halves upward, on the exact value"; "Fault 4 is a result above 2^32 − 1;
+-- fault 5, tested first .., is a zero Rc." No task ahead matters.
+module _ (r : Run) (k w a n d : ℕ) where
+  quotient-rule :
+      (q : ℕ) → 0 < d → Nearest n d q → q < 2 ^ 32
+      → settle r k (plan-quotient w (task-of r k) a n d) ≡ accept (own w (assigned a q (task-of r k)))
+  unfolding plan-quotient unless-fault settle
+  quotient-rule q h near small = rw (small-passes n d q h near small, is-rounded n d q h near) (no-access r k _)
+
+  quotient-large :
+      (q : ℕ) → 0 < d → Nearest n d q → 2 ^ 32 ≤ q
+      → settle r k (plan-quotient w (task-of r k) a n d) ≡ accept (own w (faulted 4 (task-of r k)))
+  unfolding plan-quotient unless-fault settle
+  quotient-large q h near large = rw (large-faults n d q h near large) (no-access r k _)
+
+  quotient-by-zero :
+      d ≡ 0 → settle r k (plan-quotient w (task-of r k) a n d) ≡ accept (own w (faulted 5 (task-of r k)))
+  unfolding plan-quotient unless-fault settle
+  quotient-by-zero z = rw (zero-faults n d z) (no-access r k _)
+
+module _ (c : Context) (r : Run) (n w a x y : ℕ) where
+  -- "Code 11: Ra := Rb × Rc / 1000."
+  pub mul-rule :
+      (q : ℕ) → Nearest (register (task-of r n) x * register (task-of r n) y) 1000 q → q < 2 ^ 32
+      → settle r n (plan-instruction c w n (task-of r n) (Mul a x y)) ≡ accept (own w (assigned a q (task-of r n)))
+  unfolding plan-instruction
+  mul-rule q near small = quotient-rule r n w a _ 1000 q (omega arith) near small
+
+  pub mul-large :
+      (q : ℕ) → Nearest (register (task-of r n) x * register (task-of r n) y) 1000 q → 2 ^ 32 ≤ q
+      → settle r n (plan-instruction c w n (task-of r n) (Mul a x y)) ≡ accept (own w (faulted 4 (task-of r n)))
+  unfolding plan-instruction
+  mul-large q near large = quotient-large r n w a _ 1000 q (omega arith) near large
+
+  -- "Code 12: Ra := 1000 × Rb / Rc."
+  pub div-rule :
+      (q : ℕ) → 0 < register (task-of r n) y → Nearest (1000 * register (task-of r n) x) (register (task-of r n) y) q → q < 2 ^ 32
+      → settle r n (plan-instruction c w n (task-of r n) (Div a x y)) ≡ accept (own w (assigned a q (task-of r n)))
+  unfolding plan-instruction
+  div-rule q h near small = quotient-rule r n w a _ _ q h near small
+
+  pub div-large :
+      (q : ℕ) → 0 < register (task-of r n) y → Nearest (1000 * register (task-of r n) x) (register (task-of r n) y) q → 2 ^ 32 ≤ q
+      → settle r n (plan-instruction c w n (task-of r n) (Div a x y)) ≡ accept (own w (faulted 4 (task-of r n)))
+  unfolding plan-instruction
+  div-large q h near large = quotient-large r n w a _ _ q h near large
+
+  pub div-by-zero :
+      register (task-of r n) y ≡ 0
+      → settle r n (plan-instruction c w n (task-of r n) (Div a x y)) ≡ accept (own w (faulted 5 (task-of r n)))
+  unfolding plan-instruction
+  div-by-zero z = quotient-by-zero r n w a _ _ z

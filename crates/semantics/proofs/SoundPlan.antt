@@ -11,7 +11,7 @@ use lib.ListN.{length, getD, set}
 use lib.Dec.{ltb, leb, eqb}
 use borrow.Author.Tests.{eqb-true, leb-true, ltb-true, not-false}
 use Rattle.tasklist.specs.declared.Instruction.{Instruction}
-use Rattle.tasklist.specs.declared.Instruction.the-variants.{Const, Add, Sub, Less, Load, Store, Skip, Spawn, Wait, Fan, Sum}
+use Rattle.tasklist.specs.declared.Instruction.the-variants.{Const, Add, Sub, Less, Load, Store, Skip, Spawn, Wait, Fan, Sum, Mul, Div}
 use Rattle.tasklist.specs.declared.Line.{Line}
 use Rattle.tasklist.specs.declared.Scope.{Scope}
 use Rattle.tasklist.specs.TaskList.{body-of, footprint-of, instruction-of, task-count}
@@ -23,12 +23,13 @@ use Rattle.semantics.specs.Run.{Task, Context, mode-of, register, weight
 use Rattle.semantics.specs.Access.{access-fault}
 use Rattle.semantics.specs.Effect.{Edit, keep, put, add, Numbered, Effect, Plan, stop, go, fetch, own, in-state, moved, faulted}
 use Rattle.semantics.specs.Footprint.{Grant, denied, granted, child-modes, Children, none-made, all-made, children, fan-of}
-use Rattle.semantics.specs.Plan.{wrap, unless-fault, plan-load, plan-store, plan-wait, plan-sum, passed-over, child-number, plan-make, plan-instruction, units, step-weight, at-end, plan-start, plan-step, plan-end, Action, start, step, end, plan}
+use Rattle.semantics.specs.Plan.{wrap, unless-fault, plan-load, plan-store, plan-wait, plan-sum, passed-over, quotient-fault, plan-quotient, child-number, plan-make, plan-instruction, units, step-weight, at-end, plan-start, plan-step, plan-end, Action, start, step, end, plan}
 use Rattle.semantics.specs.Sound.{In, ModesSound, RegistersSound, TaskSound, rank}
 use Rattle.semantics.proofs.Order.{and-left, and-right}
 use Rattle.semantics.proofs.Modes.{not-zero}
 use Rattle.semantics.proofs.Children.{Made, MadeOne, children-made, alone, fan-fits, fan-in, numbered-in}
 use Rattle.semantics.proofs.Fair.{not-at-end}
+use Rattle.semantics.proofs.Rounding.{quotient-fault-most, quotient-small}
 use Rattle.semantics.proofs.SoundModes.{fault-most, registers-set, GrantSound, child-sound}
 
 -- A task just made.
@@ -94,7 +95,7 @@ module _
           blank = λ x. absurd (started x);
         }
 
-    fault-sound : (k : ℕ) → k ≤ 2 → (k ≡ 0 → ⊥) → TaskSound c (faulted k t)
+    fault-sound : (k : ℕ) → k ≤ 5 → (k ≡ 0 → ⊥) → TaskSound c (faulted k t)
     fault-sound k p q =
         let e = h .early clean in
         let z = size in
@@ -152,7 +153,7 @@ module _
     set-on : (w a v : ℕ) → w ≤ most → v < 2 ^ 32 → EffectSound c most t (own w (moved 1 (set (t .registers) a v) t))
     set-on w a v m q = on-sound w 1 (set (t .registers) a v) m (omega arith) (omega arith) (registers-set (t .registers) a v (h .registers) q)
 
-    fails-sound : (w k : ℕ) → w ≤ most → k ≤ 2 → (k ≡ 0 → ⊥) → EffectSound c most t (own w (faulted k t))
+    fails-sound : (w k : ℕ) → w ≤ most → k ≤ 5 → (k ≡ 0 → ⊥) → EffectSound c most t (own w (faulted k t))
     fails-sound w k m p q =
         record {
           task = fault-sound k p q;
@@ -165,10 +166,20 @@ module _
           left = λ x. absurd (false≢true x);
         }
 
-    fault-or : (f w : ℕ) (p : Plan) → w ≤ most → f ≤ 2 → PlanSound c most t p → PlanSound c most t (unless-fault f w t p)
+    fault-or : (f w : ℕ) (p : Plan) → w ≤ most → f ≤ 5 → (f ≡ 0 → PlanSound c most t p) → PlanSound c most t (unless-fault f w t p)
     unfolding unless-fault
-    fault-or zero w p m l q = q
+    fault-or zero w p m l q = q refl
     fault-or (suc k) w p m l q = fails-sound w (suc k) m (omega arith) (not-zero k)
+
+    access-or :
+        (o asked w : ℕ) (p : Plan) → w ≤ most → PlanSound c most t p
+        → PlanSound c most t (unless-fault (access-fault o asked) w t p)
+    access-or o asked w p m q = fault-or (access-fault o asked) w p m (omega (arith, fault-most o asked)) (λ _. q)
+
+    quotient-sound : (w a n d : ℕ) → w ≤ most → PlanSound c most t (plan-quotient w t a n d)
+    unfolding plan-quotient
+    quotient-sound w a n d m =
+        fault-or (quotient-fault n d) w _ m (quotient-fault-most n d) (λ f. set-on w a _ m (quotient-small n d f))
 
     -- a child of the spawner as it sees it
     new-sound :
@@ -208,7 +219,7 @@ module _
         (w s k : ℕ) (ys : Children) → w ≤ most → Made (λ f. (f ≤ 2) × (f ≡ 0 → ⊥)) (NewSound c) k ys
         → PlanSound c most t (plan-make c w n t s ys)
     unfolding plan-make
-    make-sound w s k (none-made f) m q = fails-sound w f m (q .0) (q .1)
+    make-sound w s k (none-made f) m q = fails-sound w f m (omega (arith, q .0)) (q .1)
     make-sound w s k (all-made ts) m q =
         record {
           task = moved-sound 1 (t .registers) (omega arith) (omega arith) (h .registers);
@@ -242,10 +253,9 @@ module _
         bit true = omega arith
         bit false = omega arith
     instruction-sound w m (Load a x) q =
-        fault-or (access-fault (mode-of t (register t x)) 1) w _ m (fault-most (mode-of t (register t x)) 1) (λ v k. set-on w a v m k)
+        access-or (mode-of t (register t x)) 1 w _ m (λ v k. set-on w a v m k)
     instruction-sound w m (Store a x) q =
-        fault-or (access-fault (mode-of t (register t a)) 2) w _ m (fault-most (mode-of t (register t a)) 2)
-        (edit-sound w (put (register t a) (register t x)) m (h .registers .small x))
+        access-or (mode-of t (register t a)) 2 w _ m (edit-sound w (put (register t a) (register t x)) m (h .registers .small x))
     instruction-sound w m (Skip a b) q =
         let room = leb-true (t .pc + 1 + b) (length (body-of (c .list) (t .body))) (and-right (Decode.register a) _ q) in
         let p = passed-most (register t a) b in
@@ -256,7 +266,7 @@ module _
         (λ x i.
         subst (λ y. (y .modes ≡ t .modes) × RegistersSound (y .registers)) (sym (alone t x i)) (refl, h .registers)))
     instruction-sound w m (Wait a) q =
-        fault-or (access-fault (mode-of t (register t a)) (mode-of t (register t a))) w _ m (fault-most (mode-of t (register t a)) _)
+        access-or (mode-of t (register t a)) (mode-of t (register t a)) w _ m
         (on-sound w 1 (t .registers) m (omega arith) (omega arith) (h .registers))
     instruction-sound w m (Fan s f k) q =
         let fits = fan-fits (scope-of (c .list) (t .body) (t .pc)) s f k q in
@@ -267,8 +277,9 @@ module _
         subst (λ y. (y .modes ≡ t .modes) × RegistersSound (y .registers)) (sym (v .1))
         (refl, registers-set (t .registers) 0 (v .0) (h .registers) (omega (arith, v .2, fits .1)))))
     instruction-sound w m (Sum a x) q =
-        fault-or (access-fault (mode-of t (register t a)) 3) w _ m (fault-most (mode-of t (register t a)) 3)
-        (edit-sound w (add (register t a) (register t x)) m tt)
+        access-or (mode-of t (register t a)) 3 w _ m (edit-sound w (add (register t a) (register t x)) m tt)
+    instruction-sound w m (Mul a x y) q = quotient-sound w a _ _ m
+    instruction-sound w m (Div a x y) q = quotient-sound w a _ _ m
 
 -- a step weighs its code's number at most 16 times
 units-most : (at : Scope) (i : Instruction) → instruction-ok at i ≡ true → units i ≤ 16
@@ -284,6 +295,8 @@ units-most at (Spawn s f) q = omega arith
 units-most at (Wait a) q = omega arith
 units-most at (Fan s f k) q = fan-fits at s f k q .1
 units-most at (Sum a x) q = omega arith
+units-most at (Mul a x y) q = omega arith
+units-most at (Div a x y) q = omega arith
 
 module _
     (c : Context) (ok : Accepted (c .list)) (most : ℕ) (light : (place : ℕ) → 16 * weight-of c place ≤ most) (n : ℕ)

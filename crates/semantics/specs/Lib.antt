@@ -3,6 +3,7 @@ pub mod Run
 pub mod Access
 pub mod Effect
 pub mod Footprint
+pub mod Rounding
 pub mod Plan
 pub mod Call
 pub mod Search

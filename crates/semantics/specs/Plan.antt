@@ -6,15 +6,16 @@ use mathlib.Core.Bool.{Bool, cond, not, _||_}
 use lib.ListN.{length, getD, take}
 use lib.Dec.{leb, ltb, eqb}
 use Rattle.tasklist.specs.declared.Instruction.{Instruction}
-use Rattle.tasklist.specs.declared.Instruction.the-variants.{Const, Add, Sub, Less, Load, Store, Skip, Spawn, Wait, Fan, Sum}
+use Rattle.tasklist.specs.declared.Instruction.the-variants.{Const, Add, Sub, Less, Load, Store, Skip, Spawn, Wait, Fan, Sum, Mul, Div}
 use Rattle.tasklist.specs.TaskList.{body-of, footprint-of, instruction-of, total, adds, task-count}
 use Rattle.tasklist.specs.Encode.{instruction-fields}
 use Rattle.semantics.specs.Run.{Task, Context, mode-of, register, start-weight, end-weight, code-weight}
 use Rattle.semantics.specs.Access.{Access, writes, own-access, access-fault}
 use Rattle.semantics.specs.Effect.{Plan, stop, go, fetch, own, in-state, moved, assigned, fails, passes, storing, adding, numbered-from, making, leaving}
 use Rattle.semantics.specs.Footprint.{Children, none-made, all-made, children, fan-of}
+use Rattle.semantics.specs.Rounding.{rounded}
 
--- "Faults come before waiting": the plan of an access by its fault's number
+-- "Faults come before waiting": the plan of a step by its fault's number
 unfoldable pub unless-fault : ℕ → ℕ → Task → Plan → Plan
 unless-fault zero w t p = p
 unless-fault (suc k) w t p = fails w (suc k) t
@@ -49,6 +50,14 @@ passed-over (suc x) b = 0
 abbrev pub wrap : ℕ → ℕ
 wrap x = x % 2 ^ 32
 
+-- request 108: "Fault 4 is a result above 2^32 − 1; fault 5, tested first .., is a zero Rc."
+unfoldable pub quotient-fault : ℕ → ℕ → ℕ
+quotient-fault n d = cond (eqb d 0) 5 (cond (ltb (rounded n d) (2 ^ 32)) 0 4)
+
+-- register a := n / d, rounded
+unfoldable pub plan-quotient : ℕ → Task → ℕ → ℕ → ℕ → Plan
+plan-quotient w t a n d = unless-fault (quotient-fault n d) w t (go [] (own w (assigned a (rounded n d) t)))
+
 -- "Job n's spawn at place i makes job n + 1 + the counts of all spawns before i in that sheet."; request 104: "Later spawns and
 -- fans of the sheet number on after the block."
 unfoldable pub child-number : Context → ℕ → Task → ℕ
@@ -60,7 +69,8 @@ plan-make c w n t s (none-made k) = fails w k t
 plan-make c w n t s (all-made ts) =
     go [] (making w (numbered-from (child-number c n t) (task-count (c .list) s) ts) t)
 
--- The eleven instructions; "Const, add, sub, less, skip and spawn never wait.", and the fan is "one step that never waits".
+-- The thirteen instructions; "Const, add, sub, less, skip and spawn never wait.", and the fan is "one step that never waits".
+-- Request 108: "Code 11: Ra := Rb × Rc / 1000. Code 12: Ra := 1000 × Rb / Rc.", the first with a divisor that is never zero.
 unfoldable pub plan-instruction : Context → ℕ → ℕ → Task → Instruction → Plan
 plan-instruction c w n t (Const a v) = go [] (own w (assigned a (wrap v) t))
 plan-instruction c w n t (Add a x y) = go [] (own w (assigned a (wrap (register t x + register t y)) t))
@@ -73,6 +83,8 @@ plan-instruction c w n t (Spawn s f) = plan-make c w n t s (children s (footprin
 plan-instruction c w n t (Wait a) = plan-wait w t (register t a)
 plan-instruction c w n t (Fan s f k) = plan-make c w n t s (children s (footprint-of (c .list) f) (fan-of 0 k t))
 plan-instruction c w n t (Sum a x) = plan-sum w t (register t a) (register t x)
+plan-instruction c w n t (Mul a x y) = plan-quotient w t a (register t x * register t y) 1000
+plan-instruction c w n t (Div a x y) = plan-quotient w t a (1000 * register t x) (register t y)
 
 -- how often the number of its code an instruction weighs; request 104: "The weight is 8 × c."
 unfoldable pub units : Instruction → ℕ
@@ -87,6 +99,8 @@ units (Spawn s f) = 1
 units (Wait a) = 1
 units (Fan s f k) = k
 units (Sum a x) = 1
+units (Mul a x y) = 1
+units (Div a x y) = 1
 
 -- the code of an instruction is the first of its fields
 unfoldable pub step-weight : Context → Instruction → ℕ

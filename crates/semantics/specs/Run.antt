@@ -60,14 +60,15 @@ pub record Context : Type 0 where
   pub weights : List ℕ
 
 -- "start 5, end 2, codes 0 to 8: 1, 1, 1, 1, 3, 4, 1, 8, 1"; request 104: 8 for each child of a fan; request 105: "Coordinator
--- and preview pass today's numbers"; request 107: 4 for a sum
+-- and preview pass today's numbers"; request 107: 4 for a sum; request 108: codes 11 and 12 "weigh 1 with
+-- the coordinator"
 unfoldable pub fixed-weights : List ℕ
-fixed-weights = 5 ∷ 2 ∷ 1 ∷ 1 ∷ 1 ∷ 1 ∷ 3 ∷ 4 ∷ 1 ∷ 8 ∷ 1 ∷ 8 ∷ 4 ∷ []
+fixed-weights = 5 ∷ 2 ∷ 1 ∷ 1 ∷ 1 ∷ 1 ∷ 3 ∷ 4 ∷ 1 ∷ 8 ∷ 1 ∷ 8 ∷ 4 ∷ 1 ∷ 1 ∷ []
 
 -- Request 105: "a lent table of 12 numbers of 16 bits: start, end, then codes 0 to 9, code 9's per child"; "Later codes lengthen
--- it by one each.": code 10 makes it 13
+-- it by one each.": codes 10 to 12 make it 15
 unfoldable pub weight-places : ℕ
-weight-places = 13
+weight-places = 15
 
 -- 22: "a number not in 1 to 1000"
 unfoldable pub is-weight : ℕ → Bool

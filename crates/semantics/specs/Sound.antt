@@ -55,7 +55,7 @@ pub record TaskSound (c : Context) (t : Task) : Type 0 where
   pub modes : ModesSound (c .list .locations) (t .modes)
   pub steps : t .steps ≤ 32
   pub early : t .fault ≡ 0 → t .steps ≤ t .pc
-  pub fault : t .fault ≤ 2
+  pub fault : t .fault ≤ 5
   pub blank : t .state ≡ 0 → t ≡ never
 
 -- how many calls of a task were accepted: none while it waits, then its start, its steps and its end

@@ -19,7 +19,7 @@ pub line-limit-other : (locations kind : ℕ) → 6 ≤ kind → line-limit loca
 unfolding line-limit
 line-limit-other locations kind h = List·getD-eq-default (locations ∷ locations ∷ 4 ∷ 4 ∷ locations ∷ 4 ∷ []) 0 h
 
-pub form-other : (code a b c : ℕ) → 11 ≤ code → form code a b c ≡ none
+pub form-other : (code a b c : ℕ) → 13 ≤ code → form code a b c ≡ none
 unfolding form forms
 form-other code a b c h = List·getD-eq-default (forms a b c) none h
 

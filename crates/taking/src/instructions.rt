@@ -177,6 +177,22 @@ fn instruction_in(at: Scope, code: u8, a: u8, b: u8, c: u8) -> Form
                 source: b,
             },
         ),
+        11 => if_passed(
+            registers(a, b, c),
+            Instruction::Mul {
+                target: a,
+                left: b,
+                right: c,
+            },
+        ),
+        12 => if_passed(
+            registers(a, b, c),
+            Instruction::Div {
+                target: a,
+                left: b,
+                right: c,
+            },
+        ),
         _ => Form::Unknown,
     }
 }

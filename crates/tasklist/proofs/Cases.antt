@@ -1,11 +1,11 @@
 -- Document 01's example P: 54 bytes, which decode and encode again. The list of no bytes, whose records are 8 bytes. A
--- list with a fan (request 104), one with a sum (request 107).
+-- list with a fan (request 104), one with a sum (request 107), products and quotients in thousandths (request 108).
 use Prim.Native.Nat.{ℕ, _+_, _*_}
 use mathlib.Core.Path.{_≡_, refl}
 use mathlib.Core.List.{List, [], _∷_, _++_, map}
 use lib.ListN.{length}
 use Rattle.tasklist.specs.declared.Instruction.{Instruction}
-use Rattle.tasklist.specs.declared.Instruction.the-variants.{Const, Load, Store, Spawn, Fan, Sum}
+use Rattle.tasklist.specs.declared.Instruction.the-variants.{Const, Load, Store, Spawn, Fan, Sum, Mul, Div}
 use Rattle.tasklist.specs.TaskList.{TaskList, total, adds, count-body, count-from, counts, task-count}
 use Rattle.tasklist.specs.Fields.{field, is-tag, tag, in-range, number, counted, many, row}
 use Rattle.tasklist.specs.Decode.{head-numbers, head, line-limit, line-ok, is-line, line, footprint, forms, form, register, spawn-ok, instruction-ok, is-instruction, instruction, body, list-behind, sized, finish, empty-list, decode, accepted, refused}
@@ -143,9 +143,39 @@ pub sum-lines-refused : map decode (sum-bytes 4 4 [] ∷ sum-bytes 5 4 [] ∷ su
 unfolding field is-tag tag in-range number counted many row head-numbers head line-limit line-ok is-line line footprint forms form register spawn-ok instruction-ok is-instruction instruction body list-behind sized finish decode total adds count-body count-from counts task-count
 sum-lines-refused = refl
 
--- "a register above 3, is a bad instruction", "fields not listed are 0"; no code 11
+-- "a register above 3, is a bad instruction", "fields not listed are 0"
 pub sums-refused : map (λ made. decode (sum-bytes 4 3 made))
-    ((10 ∷ 4 ∷ 0 ∷ 0 ∷ []) ∷ (10 ∷ 0 ∷ 4 ∷ 0 ∷ []) ∷ (10 ∷ 0 ∷ 0 ∷ 1 ∷ []) ∷ (11 ∷ 0 ∷ 0 ∷ 0 ∷ []) ∷ [])
-    ≡ refused 5 ∷ refused 5 ∷ refused 5 ∷ refused 5 ∷ []
+    ((10 ∷ 4 ∷ 0 ∷ 0 ∷ []) ∷ (10 ∷ 0 ∷ 4 ∷ 0 ∷ []) ∷ (10 ∷ 0 ∷ 0 ∷ 1 ∷ []) ∷ [])
+    ≡ refused 5 ∷ refused 5 ∷ refused 5 ∷ []
 unfolding field is-tag tag in-range number counted many row head-numbers head line-limit line-ok is-line line footprint forms form register spawn-ok instruction-ok is-instruction instruction body list-behind sized finish decode total adds count-body count-from counts task-count
 sums-refused = refl
+
+-- a list of one body
+abbrev body-list : List Instruction → TaskList
+body-list is = record { locations = 4; footprints = []; bodies = is ∷ [] }
+
+abbrev thousandths-bytes : List ℕ
+thousandths-bytes =
+    0x4A ∷ 0x48 ∷ 4 ∷ 0 ∷ 1 ∷
+    0x4A ∷ 0x42 ∷ 2 ∷ 11 ∷ 3 ∷ 2 ∷ 1 ∷ 12 ∷ 1 ∷ 3 ∷ 2 ∷ []
+
+-- "Code 11: Ra := Rb × Rc / 1000. Code 12: Ra := 1000 × Rb / Rc.": three registers each; no task is made
+pub thousandths-decode : decode thousandths-bytes ≡ accepted (body-list (Mul 3 2 1 ∷ Div 1 3 2 ∷ []))
+unfolding field is-tag tag in-range number counted many row head-numbers head line-limit line-ok is-line line footprint forms form register spawn-ok instruction-ok is-instruction instruction body list-behind sized finish decode total adds count-body count-from counts task-count
+thousandths-decode = refl
+
+pub thousandths-count : task-count (body-list (Mul 3 2 1 ∷ Div 1 3 2 ∷ [])) 0 ≡ 1
+unfolding total adds count-body count-from counts task-count
+thousandths-count = refl
+
+pub thousandths-encode : encode (body-list (Mul 3 2 1 ∷ Div 1 3 2 ∷ [])) ≡ thousandths-bytes
+unfolding instruction-fields line-fields joined footprint-bytes body-bytes head-bytes encode
+thousandths-encode = refl
+
+-- "a register above 3, is a bad instruction", in each field; no code 13
+pub thousandths-refused : map (λ made. decode (sum-bytes 4 3 made))
+    ((11 ∷ 4 ∷ 0 ∷ 0 ∷ []) ∷ (11 ∷ 0 ∷ 4 ∷ 0 ∷ []) ∷ (11 ∷ 0 ∷ 0 ∷ 4 ∷ []) ∷
+    (12 ∷ 4 ∷ 0 ∷ 0 ∷ []) ∷ (12 ∷ 0 ∷ 4 ∷ 0 ∷ []) ∷ (12 ∷ 0 ∷ 0 ∷ 4 ∷ []) ∷ (13 ∷ 0 ∷ 0 ∷ 0 ∷ []) ∷ [])
+    ≡ refused 5 ∷ refused 5 ∷ refused 5 ∷ refused 5 ∷ refused 5 ∷ refused 5 ∷ refused 5 ∷ []
+unfolding field is-tag tag in-range number counted many row head-numbers head line-limit line-ok is-line line footprint forms form register spawn-ok instruction-ok is-instruction instruction body list-behind sized finish decode total adds count-body count-from counts task-count
+thousandths-refused = refl

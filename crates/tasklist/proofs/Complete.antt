@@ -13,7 +13,7 @@ use Rattle.tasklist.specs.declared.Header.{Header}
 use Rattle.tasklist.specs.declared.Line.{Line}
 use Rattle.tasklist.specs.declared.Scope.{Scope}
 use Rattle.tasklist.specs.declared.Instruction.{Instruction}
-use Rattle.tasklist.specs.declared.Instruction.the-variants.{Const, Add, Sub, Less, Load, Store, Skip, Spawn, Wait, Fan, Sum}
+use Rattle.tasklist.specs.declared.Instruction.the-variants.{Const, Add, Sub, Less, Load, Store, Skip, Spawn, Wait, Fan, Sum, Mul, Div}
 use Rattle.tasklist.specs.TaskList.{TaskList, blank-instruction, body-of, footprint-of, instruction-of}
 use Rattle.tasklist.specs.Fields.{Taken, took, field, only-if, is-tag, tag, in-range, number, counted, many, row}
 use Rattle.tasklist.specs.Decode.{head-numbers, head, line-ok, is-line, line, footprint, forms, form, instruction-ok, kept, is-instruction, instruction, scope, body, accepted, decode}
@@ -61,6 +61,8 @@ const-value (Spawn a b) = 0
 const-value (Wait a) = 0
 const-value (Fan a b c) = 0
 const-value (Sum a b) = 0
+const-value (Mul a b c) = 0
+const-value (Div a b c) = 0
 
 form-of-fields : List ℕ → Option Instruction
 form-of-fields f = form (getD f 0 0) (getD f 1 0) (getD f 2 0) (getD f 3 0)
@@ -80,6 +82,8 @@ form-reads (Spawn a b) h = refl
 form-reads (Wait a) h = refl
 form-reads (Fan a b c) h = refl
 form-reads (Sum a b) h = refl
+form-reads (Mul a b c) h = refl
+form-reads (Div a b c) h = refl
 
 instruction-reads : (at : Scope) (x : Instruction) → const-value x < 65536 → instruction-ok at x ≡ true
     → Reads instruction-fields (instruction at) x

@@ -11,7 +11,7 @@ use lib.Seq.{drop-cons, getD-set-same, getD-set-other}
 use lib.Dec.{leb, eqb}
 use borrow.Author.Tests.{le-leb, lt-leb, leb-true, leb-false, eqb-true, eqb-false}
 use Rattle.tasklist.specs.declared.Instruction.{Instruction}
-use Rattle.tasklist.specs.declared.Instruction.the-variants.{Const, Add, Sub, Less, Load, Store, Skip, Spawn, Wait, Fan, Sum}
+use Rattle.tasklist.specs.declared.Instruction.the-variants.{Const, Add, Sub, Less, Load, Store, Skip, Spawn, Wait, Fan, Sum, Mul, Div}
 use Rattle.tasklist.specs.TaskList.{total, adds, count-body, count-from, counts, blank-instruction}
 use Rattle.tasklist.specs.Tables.{capped}
 
@@ -49,6 +49,8 @@ adds-capped f (Spawn a b) = capped-once (f a)
 adds-capped f (Wait a) = refl
 adds-capped f (Fan a b c) = capped-times c (f a)
 adds-capped f (Sum a b) = refl
+adds-capped f (Mul a b c) = refl
+adds-capped f (Div a b c) = refl
 
 -- where the sum is no more than 129, capped counts add up to the same
 times-small : (c n : ℕ) → c * n ≤ 129 → c * capped n ≡ c * n
@@ -71,6 +73,8 @@ adds-small f (Spawn a b) h = omega arith
 adds-small f (Wait a) h = refl
 adds-small f (Fan a b c) h = times-small c (f a) h
 adds-small f (Sum a b) h = refl
+adds-small f (Mul a b c) h = refl
+adds-small f (Div a b c) h = refl
 
 pub total-capped : (f : ℕ → ℕ) (xs : List Instruction) → total (adds f) xs ≤ 129
     → total (adds (λ a. capped (f a))) xs ≡ total (adds f) xs

@@ -13,7 +13,7 @@ use borrow.Author.Tests.{leb-true, leb-false, ltb-true, le-leb}
 use Rattle.tasklist.specs.declared.Line.{Line}
 use Rattle.tasklist.specs.declared.Scope.{Scope}
 use Rattle.tasklist.specs.declared.Instruction.{Instruction}
-use Rattle.tasklist.specs.declared.Instruction.the-variants.{Const, Add, Sub, Less, Load, Store, Skip, Spawn, Wait, Fan, Sum}
+use Rattle.tasklist.specs.declared.Instruction.the-variants.{Const, Add, Sub, Less, Load, Store, Skip, Spawn, Wait, Fan, Sum, Mul, Div}
 use Rattle.tasklist.specs.TaskList.{TaskList, blank-instruction, body-of, footprint-of, instruction-of, total, adds, count-body, count-from, counts, task-count}
 use Rattle.tasklist.specs.Decode.{line-ok, is-line, line, footprint, form, register, spawn-ok, instruction-ok, kept, is-instruction, instruction, scope, body, accepted, decode}
 use Rattle.tasklist.specs.Encode.{marked}
@@ -97,6 +97,8 @@ registers-of (Spawn a b) = []
 registers-of (Wait a) = a ∷ []
 registers-of (Fan a b c) = []
 registers-of (Sum a b) = a ∷ b ∷ []
+registers-of (Mul a b c) = a ∷ b ∷ c ∷ []
+registers-of (Div a b c) = a ∷ b ∷ c ∷ []
 
 no-register : (j : ℕ) → getD [] j 0 ≤ 3
 no-register j = omega arith
@@ -130,6 +132,8 @@ registers-fit at (Spawn a b) ok = no-register
 registers-fit at (Wait a) ok = one-register a [] ok no-register
 registers-fit at (Fan a b c) ok = no-register
 registers-fit at (Sum a b) ok = two-registers a b ok
+registers-fit at (Mul a b c) ok = three-registers a b c ok
+registers-fit at (Div a b c) ok = three-registers a b c ok
 
 -- The law of counts: a spawn or fan names a higher body, so a body's count looks only at the counts behind it
 counts-drop : (k s : ℕ) (bs : List (List Instruction)) → drop k (counts s bs) ≡ counts (s + k) (drop k bs)
@@ -159,6 +163,8 @@ adds-above f g at (Spawn a b) same ok = same a (spawn-fits at a b ok .above)
 adds-above f g at (Wait a) same ok = refl
 adds-above f g at (Fan a b c) same ok = ap (λ (n : ℕ). c * n) (same a (fan-fits at a b c ok .names .above))
 adds-above f g at (Sum a b) same ok = refl
+adds-above f g at (Mul a b c) same ok = refl
+adds-above f g at (Div a b c) same ok = refl
 
 total-same : {A : Type 0} (f g : A → ℕ) (l : List A) (d : A) → ((i : ℕ) → i < length l → f (getD l i d) ≡ g (getD l i d))
     → total f l ≡ total g l

@@ -14,7 +14,7 @@ use Rattle.tasklist.specs.declared.Header.{Header}
 use Rattle.tasklist.specs.declared.Line.{Line}
 use Rattle.tasklist.specs.declared.Scope.{Scope}
 use Rattle.tasklist.specs.declared.Instruction.{Instruction}
-use Rattle.tasklist.specs.declared.Instruction.the-variants.{Const, Add, Sub, Less, Load, Store, Skip, Spawn, Wait, Fan, Sum}
+use Rattle.tasklist.specs.declared.Instruction.the-variants.{Const, Add, Sub, Less, Load, Store, Skip, Spawn, Wait, Fan, Sum, Mul, Div}
 use Rattle.tasklist.specs.TaskList.{TaskList}
 use Rattle.tasklist.specs.Fields.{Taken, took, and-then, field, only-if, is-tag, tag, in-range, number, counted, row}
 use Rattle.tasklist.specs.Decode.{head-numbers, head, line-ok, is-line, line, footprint, forms, form, instruction-ok, is-instruction, instruction, scope, body, accepted, empty-list, decode}
@@ -93,7 +93,7 @@ line-exact locations = field-exact line-fields 2 4 (is-line locations) exact
         let p = only-if-some (line-ok locations read) read x e in
         ap line-fields (p .value)
 
--- the eleven forms: the fields that are listed, and 0 for those that are not
+-- the thirteen forms: the fields that are listed, and 0 for those that are not
 module _ (code a b c : ℕ) (y x : Instruction) where
   plain-form : code ∷ a ∷ b ∷ c ∷ [] ≡ instruction-fields y → some y ≡ some x → code ∷ a ∷ b ∷ c ∷ [] ≡ instruction-fields x
   plain-form same e =
@@ -127,7 +127,9 @@ form-exact (suc (suc (suc (suc (suc (suc (suc (suc zero)))))))) a b c x hb hc e 
     (λ i. 8 ∷ a ∷ zero-b i ∷ zero-c i ∷ []) ∙ ap instruction-fields (p .value)
 form-exact (suc (suc (suc (suc (suc (suc (suc (suc (suc zero))))))))) a b c x hb hc e = plain-form 9 a b c (Fan a b c) x refl e
 form-exact (suc (suc (suc (suc (suc (suc (suc (suc (suc (suc zero)))))))))) a b c x hb hc e = zero-form 10 a b c (Sum a b) x refl e
-form-exact (suc (suc (suc (suc (suc (suc (suc (suc (suc (suc (suc code))))))))))) a b c x hb hc e =
+form-exact (suc (suc (suc (suc (suc (suc (suc (suc (suc (suc (suc zero))))))))))) a b c x hb hc e = plain-form 11 a b c (Mul a b c) x refl e
+form-exact (suc (suc (suc (suc (suc (suc (suc (suc (suc (suc (suc (suc zero)))))))))))) a b c x hb hc e = plain-form 12 a b c (Div a b c) x refl e
+form-exact (suc (suc (suc (suc (suc (suc (suc (suc (suc (suc (suc (suc (suc code))))))))))))) a b c x hb hc e =
     let z : _≡_ {A = ℕ} 0 1 = cc in let y : ⊥ = omega arith in absurd y
 
 instruction-exact : (at : Scope) → Exact instruction-fields (instruction at)

@@ -10,7 +10,7 @@ use lib.Seq.{sets, length-sets, sets-eq, drop-cons}
 use borrow.Author.Tests.{lt-leb, le-leb}
 use Rattle.tasklist.specs.declared.Line.{Line}
 use Rattle.tasklist.specs.declared.Instruction.{Instruction}
-use Rattle.tasklist.specs.declared.Instruction.the-variants.{Const, Add, Sub, Less, Load, Store, Skip, Spawn, Wait, Fan, Sum}
+use Rattle.tasklist.specs.declared.Instruction.the-variants.{Const, Add, Sub, Less, Load, Store, Skip, Spawn, Wait, Fan, Sum, Mul, Div}
 use Rattle.tasklist.specs.TaskList.{TaskList}
 use Rattle.tasklist.specs.Encode.{instruction-fields, line-fields, joined, footprint-bytes, body-bytes, head-bytes, encode}
 use Rattle.tasklist.specs.Answers.{refuses, gives, write-answer, write-places}
@@ -104,6 +104,8 @@ instruction-length (Spawn a b) = refl
 instruction-length (Wait a) = refl
 instruction-length (Fan a b c) = refl
 instruction-length (Sum a b) = refl
+instruction-length (Mul a b c) = refl
+instruction-length (Div a b c) = refl
 
 pub footprint-length : (ls : List Line) → length (footprint-bytes ls) ≡ 3 + 2 * length ls
 unfolding footprint-bytes

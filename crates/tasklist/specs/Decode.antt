@@ -6,7 +6,7 @@ use mathlib.Core.Option.{Option, none, some}
 use lib.ListN.{getD}
 use lib.Dec.{leb, ltb, eqb}
 use Rattle.tasklist.specs.declared.Instruction.{Instruction}
-use Rattle.tasklist.specs.declared.Instruction.the-variants.{Const, Add, Sub, Less, Load, Store, Skip, Spawn, Wait, Fan, Sum}
+use Rattle.tasklist.specs.declared.Instruction.the-variants.{Const, Add, Sub, Less, Load, Store, Skip, Spawn, Wait, Fan, Sum, Mul, Div}
 use Rattle.tasklist.specs.declared.Line.{Line}
 use Rattle.tasklist.specs.declared.Scope.{Scope}
 use Rattle.tasklist.specs.declared.Header.{Header}
@@ -48,13 +48,13 @@ line locations = field 2 4 (is-line locations)
 unfoldable pub footprint : ℕ → List ℕ → Taken (List Line)
 footprint locations = row 0x46 8 4 (λ _ _. line locations)
 
--- the eleven forms in the order of their codes, each with its own fields: "fields not listed are 0"
+-- the thirteen forms in the order of their codes, each with its own fields: "fields not listed are 0"
 unfoldable pub forms : ℕ → ℕ → ℕ → List (Option Instruction)
 forms a b c =
     some (Const a (b + 256 * c)) ∷ some (Add a b c) ∷ some (Sub a b c) ∷ some (Less a b c) ∷
     only-if (eqb c 0) (Load a b) ∷ only-if (eqb c 0) (Store a b) ∷ only-if (eqb c 0) (Skip a b) ∷
     only-if (eqb c 0) (Spawn a b) ∷ only-if (eqb b 0 && eqb c 0) (Wait a) ∷
-    some (Fan a b c) ∷ only-if (eqb c 0) (Sum a b) ∷ []
+    some (Fan a b c) ∷ only-if (eqb c 0) (Sum a b) ∷ some (Mul a b c) ∷ some (Div a b c) ∷ []
 
 -- "Another code .. is a bad instruction"
 unfoldable pub form : ℕ → ℕ → ℕ → ℕ → Option Instruction
@@ -82,6 +82,8 @@ instruction-ok at (Spawn a b) = spawn-ok at a b
 instruction-ok at (Wait a) = register a
 instruction-ok at (Fan a b c) = spawn-ok at a b && leb 1 c && leb c 16
 instruction-ok at (Sum a b) = register a && register b
+instruction-ok at (Mul a b c) = register a && register b && register c
+instruction-ok at (Div a b c) = register a && register b && register c
 
 abbrev pub kept : {A : Type 0} → (A → Bool) → Option A → Option A
 kept ok none = none

@@ -3,7 +3,7 @@ use Prim.Native.Nat.{ℕ, _/_, _%_}
 use mathlib.Core.List.{List, [], _∷_, _++_}
 use lib.ListN.{length}
 use Rattle.tasklist.specs.declared.Instruction.{Instruction}
-use Rattle.tasklist.specs.declared.Instruction.the-variants.{Const, Add, Sub, Less, Load, Store, Skip, Spawn, Wait, Fan, Sum}
+use Rattle.tasklist.specs.declared.Instruction.the-variants.{Const, Add, Sub, Less, Load, Store, Skip, Spawn, Wait, Fan, Sum, Mul, Div}
 use Rattle.tasklist.specs.declared.Line.{Line}
 use Rattle.tasklist.specs.TaskList.{TaskList}
 
@@ -20,6 +20,8 @@ instruction-fields (Spawn a b) = 7 ∷ a ∷ b ∷ 0 ∷ []
 instruction-fields (Wait a) = 8 ∷ a ∷ 0 ∷ 0 ∷ []
 instruction-fields (Fan a b c) = 9 ∷ a ∷ b ∷ c ∷ []
 instruction-fields (Sum a b) = 10 ∷ a ∷ b ∷ 0 ∷ []
+instruction-fields (Mul a b c) = 11 ∷ a ∷ b ∷ c ∷ []
+instruction-fields (Div a b c) = 12 ∷ a ∷ b ∷ c ∷ []
 
 unfoldable pub line-fields : Line → List ℕ
 line-fields l = l .kind ∷ l .value ∷ []

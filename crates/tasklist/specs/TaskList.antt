@@ -6,7 +6,7 @@ use mathlib.Core.Bool.{cond}
 use lib.Dec.{leb}
 use lib.ListN.{getD}
 use Rattle.tasklist.specs.declared.Instruction.{Instruction}
-use Rattle.tasklist.specs.declared.Instruction.the-variants.{Const, Add, Sub, Less, Load, Store, Skip, Spawn, Wait, Fan, Sum}
+use Rattle.tasklist.specs.declared.Instruction.the-variants.{Const, Add, Sub, Less, Load, Store, Skip, Spawn, Wait, Fan, Sum, Mul, Div}
 use Rattle.tasklist.specs.declared.Line.{Line}
 
 -- "Footprints and sheets are numbered from 0": the number is the place in the list
@@ -48,6 +48,8 @@ adds count (Spawn a b) = count a
 adds count (Wait a) = 0
 adds count (Fan a b c) = c * count a
 adds count (Sum a b) = 0
+adds count (Mul a b c) = 0
+adds count (Div a b c) = 0
 
 -- "count(s) is 1 plus count(a) for each spawn in sheet s, passed over or not"
 unfoldable pub count-body : (ℕ → ℕ) → List Instruction → ℕ

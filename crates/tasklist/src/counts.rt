@@ -59,6 +59,16 @@ pub fn added(instruction: Instruction, known: &[u8; 32]) -> usize
             place: _,
             source: _,
         } => 0,
+        Instruction::Mul {
+            target: _,
+            left: _,
+            right: _,
+        } => 0,
+        Instruction::Div {
+            target: _,
+            left: _,
+            right: _,
+        } => 0,
     }
 }
 

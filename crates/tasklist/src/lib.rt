@@ -1,7 +1,7 @@
 // Job lists: document 01's binary format, the tables that a read list is kept in, and the task counts. The reader stands above, in
 // `taking` and `reader`, what is asked of the tables in `listing`, the writer in `writer`; the runtime uses promises only.
 
-// One instruction of a task body (document 01: sheet), one case for each of the eleven forms.
+// One instruction of a task body (document 01: sheet), one case for each of the thirteen forms.
 pub enum Instruction {
     // 0 const: register `target` := `value`.
     Const {
@@ -60,6 +60,18 @@ pub enum Instruction {
     Sum {
         place: u8,
         source: u8,
+    },
+    // 11 mul (request 108): `target` := `left` * `right` / 1000, to the nearest whole number, halves upward.
+    Mul {
+        target: u8,
+        left: u8,
+        right: u8,
+    },
+    // 12 div (request 108): `target` := 1000 * `left` / `right`, to the nearest whole number, halves upward.
+    Div {
+        target: u8,
+        left: u8,
+        right: u8,
     },
 }
 

@@ -81,6 +81,16 @@ fn put_instruction(out: &mut [u8], at: usize, instruction: Instruction)
             children,
         } => put_four(out, at, 9, body, footprint, children),
         Instruction::Sum { place, source } => put_four(out, at, 10, place, source, 0),
+        Instruction::Mul {
+            target,
+            left,
+            right,
+        } => put_four(out, at, 11, target, left, right),
+        Instruction::Div {
+            target,
+            left,
+            right,
+        } => put_four(out, at, 12, target, left, right),
     }
 }
 

@@ -85,6 +85,18 @@ enum-known-instruction-11 c = search needs
 put-four-requires-11 : tie.Need-put-four-requires-11
 put-four-requires-11 c κs = search needs
 
+enum-known-instruction-12 : tie.Need-enum-known-instruction-12
+enum-known-instruction-12 c = search needs
+
+put-four-requires-12 : tie.Need-put-four-requires-12
+put-four-requires-12 c κs = search needs
+
+enum-known-instruction-13 : tie.Need-enum-known-instruction-13
+enum-known-instruction-13 c = search needs
+
+put-four-requires-13 : tie.Need-put-four-requires-13
+put-four-requires-13 c κs = search needs
+
 same-length : tie.Need-same-length
 same-length c = search needs
 
@@ -206,6 +218,28 @@ returns-11 c =
     c .before .before .put-four11 .ensures ∙ ap (λ (x : Instruction). sets (now (args .out)) (args .at)
     (instruction-fields x)) (sym (instruction11 .given .1))
 
+same-length-12 : tie.Need-same-length-12
+same-length-12 c = search needs
+
+returns-12 : tie.Need-returns-12
+unfolding instruction-fields
+returns-12 c =
+    let args = c .before .before .before .before .before .before .before .before .args in
+    let instruction12 = c .before .before .before .before .before .instruction12 in
+    c .before .before .put-four12 .ensures ∙ ap (λ (x : Instruction). sets (now (args .out)) (args .at)
+    (instruction-fields x)) (sym (instruction12 .given .1))
+
+same-length-13 : tie.Need-same-length-13
+same-length-13 c = search needs
+
+returns-13 : tie.Need-returns-13
+unfolding instruction-fields
+returns-13 c =
+    let args = c .before .before .before .before .before .before .before .before .args in
+    let instruction13 = c .before .before .before .before .before .instruction13 in
+    c .before .before .put-four13 .ensures ∙ ap (λ (x : Instruction). sets (now (args .out)) (args .at)
+    (instruction-fields x)) (sym (instruction13 .given .1))
+
 pub put-instruction-spec : {M : Type 1} → statement M
 put-instruction-spec =
     tie.close
@@ -234,6 +268,10 @@ put-instruction-spec =
     put-four-requires-10
     enum-known-instruction-11
     put-four-requires-11
+    enum-known-instruction-12
+    put-four-requires-12
+    enum-known-instruction-13
+    put-four-requires-13
     same-length
     returns
     same-length-2
@@ -255,4 +293,8 @@ put-instruction-spec =
     same-length-10
     returns-10
     same-length-11
-    returns-11)
+    returns-11
+    same-length-12
+    returns-12
+    same-length-13
+    returns-13)

@@ -53,6 +53,12 @@ fanned-to-requires c κs =
 enum-told-9 : tie.Need-enum-told-9
 enum-told-9 c = search needs
 
+enum-told-10 : tie.Need-enum-told-10
+enum-told-10 c = search needs
+
+enum-told-11 : tie.Need-enum-told-11
+enum-told-11 c = search needs
+
 returns : tie.Need-returns
 unfolding made
 returns c = let a = c .before .before .args in ap (made (a .tables) (a .job) (a .place) (a .number) (a .k) (a .depth)) (sym (c .enum-told .given .1))
@@ -102,6 +108,14 @@ returns-11 : tie.Need-returns-11
 unfolding made
 returns-11 c = let a = c .before .before .args in ap (made (a .tables) (a .job) (a .place) (a .number) (a .k) (a .depth)) (sym (c .enum-told9 .given .1))
 
+returns-12 : tie.Need-returns-12
+unfolding made
+returns-12 c = let a = c .before .before .args in ap (made (a .tables) (a .job) (a .place) (a .number) (a .k) (a .depth)) (sym (c .enum-told10 .given .1))
+
+returns-13 : tie.Need-returns-13
+unfolding made
+returns-13 c = let a = c .before .before .args in ap (made (a .tables) (a .job) (a .place) (a .number) (a .k) (a .depth)) (sym (c .enum-told11 .given .1))
+
 pub made-by-spec : {M : Type 1} → statement M
 made-by-spec =
     tie.close
@@ -120,6 +134,8 @@ made-by-spec =
     child-of-requires-2
     fanned-to-requires
     enum-told-9
+    enum-told-10
+    enum-told-11
     returns
     returns-2
     returns-3
@@ -130,4 +146,6 @@ made-by-spec =
     returns-8
     returns-9
     returns-10
-    returns-11)
+    returns-11
+    returns-12
+    returns-13)

@@ -1,7 +1,7 @@
--- By the code: eleven codes, each with its test, and none for another.
+-- By the code: thirteen codes, each with its test, and none for another.
 -- Assumes nothing.
 use Rattle.tasklist.specs.declared.Instruction.{Instruction}
-use Rattle.tasklist.specs.declared.Instruction.the-variants.{Const, Add, Sub, Less, Load, Store, Skip, Spawn, Wait, Fan, Sum}
+use Rattle.tasklist.specs.declared.Instruction.the-variants.{Const, Add, Sub, Less, Load, Store, Skip, Spawn, Wait, Fan, Sum, Mul, Div}
 use Rattle.tasklist.specs.Fields.{only-if}
 use Rattle.tasklist.specs.Decode.{form, forms, instruction-ok, kept}
 use Rattle.taking.proofs.InstructionLaws.{form-other, past, kept-only, registers-one, registers-two}
@@ -90,6 +90,18 @@ registers-requires-8 c κs = search needs
 
 if-zero-requires-6 : tie.Need-if-zero-requires-6
 if-zero-requires-6 c κs = search needs
+
+registers-requires-9 : tie.Need-registers-requires-9
+registers-requires-9 c κs = search needs
+
+if-passed-requires-6 : tie.Need-if-passed-requires-6
+if-passed-requires-6 c κs = search needs
+
+registers-requires-10 : tie.Need-registers-requires-10
+registers-requires-10 c κs = search needs
+
+if-passed-requires-7 : tie.Need-if-passed-requires-7
+if-passed-requires-7 c κs = search needs
 
 returns : tie.Need-returns
 unfolding form forms instruction-ok
@@ -180,9 +192,23 @@ returns-12 c =
     (c .before .before .match .keys11) refl)
 
 returns-13 : tie.Need-returns-13
+unfolding form forms instruction-ok
 returns-13 c =
+    let a = c .before .before .before .args in
+    c .if-passed6 .ensures ∙ ap (tested (Mul (a .a) (a .b) (a .c))) (c .before .registers9 .ensures)
+    ∙ (rw (c .before .before .match .keys12) refl)
+
+returns-14 : tie.Need-returns-14
+unfolding form forms instruction-ok
+returns-14 c =
+    let a = c .before .before .before .args in
+    c .if-passed7 .ensures ∙ ap (tested (Div (a .a) (a .b) (a .c))) (c .before .registers10 .ensures)
+    ∙ (rw (c .before .before .match .keys13) refl)
+
+returns-15 : tie.Need-returns-15
+returns-15 c =
     let a = c .before .args in
-    sym (ap (kept (instruction-ok (a .at))) (form-other (a .code) (a .a) (a .b) (a .c) (past 10 (a .code) (past 9 (a .code) (past 8 (a .code) (past 7 (a .code) (past 6 (a .code) (past 5 (a .code) (past 4 (a .code) (past 3 (a .code) (past 2 (a .code) (past 1 (a .code) (past 0 (a .code) zero-le (c .match .rest .0 .0 .0 .0 .0 .0 .0 .0 .0 .0 .1)) (c .match .rest .0 .0 .0 .0 .0 .0 .0 .0 .0 .1)) (c .match .rest .0 .0 .0 .0 .0 .0 .0 .0 .1)) (c .match .rest .0 .0 .0 .0 .0 .0 .0 .1)) (c .match .rest .0 .0 .0 .0 .0 .0 .1)) (c .match .rest .0 .0 .0 .0 .0 .1)) (c .match .rest .0 .0 .0 .0 .1)) (c .match .rest .0 .0 .0 .1)) (c .match .rest .0 .0 .1)) (c .match .rest .0 .1)) (c .match .rest .1))))
+    sym (ap (kept (instruction-ok (a .at))) (form-other (a .code) (a .a) (a .b) (a .c) (past 12 (a .code) (past 11 (a .code) (past 10 (a .code) (past 9 (a .code) (past 8 (a .code) (past 7 (a .code) (past 6 (a .code) (past 5 (a .code) (past 4 (a .code) (past 3 (a .code) (past 2 (a .code) (past 1 (a .code) (past 0 (a .code) zero-le (c .match .rest .0 .0 .0 .0 .0 .0 .0 .0 .0 .0 .0 .0 .1)) (c .match .rest .0 .0 .0 .0 .0 .0 .0 .0 .0 .0 .0 .1)) (c .match .rest .0 .0 .0 .0 .0 .0 .0 .0 .0 .0 .1)) (c .match .rest .0 .0 .0 .0 .0 .0 .0 .0 .0 .1)) (c .match .rest .0 .0 .0 .0 .0 .0 .0 .0 .1)) (c .match .rest .0 .0 .0 .0 .0 .0 .0 .1)) (c .match .rest .0 .0 .0 .0 .0 .0 .1)) (c .match .rest .0 .0 .0 .0 .0 .1)) (c .match .rest .0 .0 .0 .0 .1)) (c .match .rest .0 .0 .0 .1)) (c .match .rest .0 .0 .1)) (c .match .rest .0 .1)) (c .match .rest .1))))
 
 pub instruction-in-spec : {M : Type 1} → statement M
 instruction-in-spec =
@@ -212,6 +238,10 @@ instruction-in-spec =
     if-passed-requires-5
     registers-requires-8
     if-zero-requires-6
+    registers-requires-9
+    if-passed-requires-6
+    registers-requires-10
+    if-passed-requires-7
     returns
     returns-2
     returns-3
@@ -224,4 +254,6 @@ instruction-in-spec =
     returns-10
     returns-11
     returns-12
-    returns-13)
+    returns-13
+    returns-14
+    returns-15)

@@ -64,6 +64,12 @@ wide-requires-3 c κs = search needs
 enum-told-9 : tie.Need-enum-told-9
 enum-told-9 c = search needs
 
+enum-told-10 : tie.Need-enum-told-10
+enum-told-10 c = search needs
+
+enum-told-11 : tie.Need-enum-told-11
+enum-told-11 c = search needs
+
 mul-result : tie.Need-mul-result
 mul-result c =
     let children = c .before .before .wide2 in
@@ -136,6 +142,16 @@ unfolding adds
 returns-11 c =
     (λ h. ap (adds (λ (a : ℕ). getD (c .before .before .args .known .now) a 1)) (sym (c .enum-told9 .given .1)), omega arith)
 
+returns-12 : tie.Need-returns-12
+unfolding adds
+returns-12 c =
+    (λ h. ap (adds (λ (a : ℕ). getD (c .before .before .args .known .now) a 1)) (sym (c .enum-told10 .given .1)), omega arith)
+
+returns-13 : tie.Need-returns-13
+unfolding adds
+returns-13 c =
+    (λ h. ap (adds (λ (a : ℕ). getD (c .before .before .args .known .now) a 1)) (sym (c .enum-told11 .given .1)), omega arith)
+
 pub added-spec : {M : Type 1} → statement M
 added-spec =
     tie.close
@@ -159,6 +175,8 @@ added-spec =
     wide-requires-3
     mul-result
     enum-told-9
+    enum-told-10
+    enum-told-11
     returns
     returns-2
     returns-3
@@ -169,4 +187,6 @@ added-spec =
     returns-8
     returns-9
     returns-10
-    returns-11)
+    returns-11
+    returns-12
+    returns-13)

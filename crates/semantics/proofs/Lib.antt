@@ -33,3 +33,5 @@ pub mod Unchanged
 pub mod Search
 pub mod Bytes
 pub mod Asked
+-- what a task run alone can depend on
+pub mod Isolation

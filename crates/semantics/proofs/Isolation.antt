@@ -1,10 +1,10 @@
 -- What a task that is run alone can depend on (request 109). Two runs side by side have the same order and the same records, for
 -- every task's modes are under the first task's, so that a load meets only entries that are alike. Assumes nothing.
-use Prim.Native.Nat.{ℕ, zero, suc, _+_, _≤_, _<_}
+use Prim.Native.Nat.{ℕ, zero, suc, _≤_, _<_}
 use mathlib.Core.Path.{_≡_, refl, sym, ap, subst, _∙_}
 use mathlib.Core.List.{List, [], _∷_}
 use mathlib.Core.Bool.{Bool, true, false, cond, not, _||_, false≢true}
-use mathlib.Core.Logic.{inl, inr}
+use mathlib.Core.Logic.{inl}
 use native.Mathlib.Decide.{ℕ-discrete, decLt}
 use native.Mathlib.Omega.{arith}
 use lib.ListN.{length, getD, set}
@@ -14,7 +14,7 @@ use borrow.Author.Tests.{eqb-true, eqb-false, ne-eqb, not-true}
 use Rattle.tasklist.specs.TaskList.{body-of}
 use Rattle.tasklist.specs.Accepted.{Accepted}
 use Rattle.semantics.specs.Run.{Task, Run, Context, mode-of, task-of}
-use Rattle.semantics.specs.Access.{reads, queue, behind-writer, compatible, allowed, access-fault}
+use Rattle.semantics.specs.Access.{reads, queue, behind-writer, compatible, allowed}
 use Rattle.semantics.specs.Effect.{Edit, keep, put, add, Effect, Plan, stop, go, fetch}
 use Rattle.semantics.specs.Plan.{at-end, plan}
 use Rattle.semantics.specs.Call.{Call, Outcome, refuse, accept, hold, admit, settle, among, sum-of, decide, edited, apply, after}

@@ -18,6 +18,7 @@ pub mod Sequential
 pub mod Reached
 pub mod Guarantee
 pub mod Trace
+pub mod Turns
 -- the definitions in document 01's words
 pub mod Wording
 pub mod Rules

@@ -9,6 +9,7 @@ use mathlib.Core.Logic.{_⊎_, inl, inr, _≢_}
 use native.Mathlib.Decide.{ℕ-discrete}
 use native.Mathlib.Omega.{arith}
 use lib.ListN.{replicate}
+use lib.Dec.{eqb}
 use borrow.Author.Tests.{eq-eqb, ne-eqb, eqb-true}
 use Rattle.tasklist.specs.Accepted.{Accepted}
 use Rattle.semantics.specs.Run.{Task, Run, Context, task-of, end-weight, initial}
@@ -92,6 +93,13 @@ unfolding ends-at
 no-place n [] h = false≢true h
 no-place n (b ∷ bs) h = false≢true h
 
+first-ends : (n : ℕ) (b : Call) (bs : List Call) → ends-at n 1 (b ∷ bs) ≡ true → (b .action ≡ end) × (b .task ≡ n)
+unfolding ends-at
+first-ends n b bs h = (
+  end-action (b .action) (and-left (is-end (b .action)) (eqb (b .task) n) h),
+  eqb-true (b .task) n (and-right (is-end (b .action)) (eqb (b .task) n) h),
+)
+
 module _ (c : Context) (ok : Accepted (c .list)) where
   -- the move
   next-accepted :
@@ -119,3 +127,241 @@ module _ (c : Context) (ok : Accepted (c .list)) where
       sort : (t .state ≡ 1) ⊎ (t .state ≡ 2) → (e : Effect) × Accepts c r (next-call c r n) e
       sort (inl s) = unfold next-call next-action in rw (eq-eqb (t .state) 1 s) (_, front-start c r n rest q (v .distinct) (below c ok r n v here) s)
       sort (inr s) = unfold next-call in later s (at-end c t) refl
+
+  -- an accepted call of the foremost task is its next call
+  move-foremost : (r r′ : Run) (b : Call) → Valid c r → call c r b ≡ some r′ → Foremost r b → after-move c r ≡ r′
+  unfolding after-move
+  move-foremost r r′ b v q front =
+      ap (λ o. after-move-by c r (foremost-call c r o)) (front .1)
+      ∙ unfold foremost-call after-move-by in ap (after c r) (sym same) ∙ after-call c r r′ b q
+    where
+      found : (e : Effect) × Accepts c r (next-call c r (b .task)) e
+      found = next-accepted r (b .task) (front .0) v (front .1)
+
+      same : b ≡ next-call c r (b .task)
+      same =
+          one-call c r r′ _ b (next-call c r (b .task)) q (accept-call c r (next-call c r (b .task)) (found .0) (found .1))
+          (unfold next-call in refl)
+
+  -- it stays the foremost while others make calls
+  stays-foremost : (r r′ : Run) (b d : Call) → call c r d ≡ some r′ → b .task ≢ d .task → Foremost r b → Foremost r′ b
+  stays-foremost r r′ b d q ne front =
+      let h = call-accept c r d r′ q in
+      let xs = places (d .task) (h .0) in (
+        splice (d .task) xs (front .0),
+        ap (λ x. x .order) (sym (h .2))
+        ∙ unfold apply in ap (splice (d .task) xs) (front .1)
+        ∙ splice-other (d .task) (b .task) xs (front .0) ne,
+      )
+
+  -- b leads from s to s₁ and is of the foremost task there: wherever other calls lead from s, a move leads to where s₁ leads
+  catch-up :
+      (m : ℕ) (s s₁ r : Run) (b : Call) → Valid c s → call c s b ≡ some s₁ → Foremost s b → Reach (call c) r m s
+      → Led c s₁ (after-move c r)
+  catch-up zero s s₁ r b v e front q =
+      (0, sym (ap (after-move c) (sym q) ∙ move-foremost s s₁ b v e front))
+  catch-up (suc m) s s₁ r b v e front q = sort (catch-up m) (ℕ-discrete (b .task) (d .task))
+    where
+      d : Call
+      d = q .0
+
+      s′ : Run
+      s′ = q .1
+
+      sort :
+          ((x x₁ y : Run) (a : Call) → Valid c x → call c x a ≡ some x₁ → Foremost x a → Reach (call c) y m x
+          → Led c x₁ (after-move c y))
+          → Dec (b .task ≡ d .task) → Led c s₁ (after-move c r)
+      sort ih (yes p) =
+          let same = same-result (call c) s s₁ s′ b d (one-call c s s₁ s′ b d e (q .2) p) e (q .2) in
+          led-move c s₁ r (m, subst (Reach (call c) r m) same (q .3))
+      sort ih (no ne) = meet (diamond c ok s s₁ s′ b d v e (q .2))
+        where
+          meet : Meet (call c) b d s₁ s′ → Led c s₁ (after-move c r)
+          meet (inl p) = absurd (ne (ap (λ x. x .task) p))
+          meet (inr x) =
+              let more =
+              ih s′ (x .0) r b (call-valid c ok s s′ d v (q .2)) (x .2) (stays-foremost s s′ b d (q .2) ne front) (q .3) in
+              (suc (more .0), (d, x .0, x .1, more .1))
+
+  -- a call that ends its task
+  end-ends :
+      (r r′ : Run) (b : Call) → Valid c r → call c r b ≡ some r′ → b .action ≡ end → task-of r′ (b .task) .state ≡ 3
+  end-ends r r′ b v q a =
+      subst (λ x. task-of x (b .task) .state ≡ 3) (h .2)
+      (ap (λ t. t .state) (self-record c ok r v b e (h .1) (b .task) refl) ∙ ap (λ x. x .task .state) (sym (left .1)))
+    where
+      n : ℕ
+      n = b .task
+
+      h : (e : Effect) × Accepts c r b e × (apply n e r ≡ r′)
+      h = call-accept c r b r′ q
+
+      e : Effect
+      e = h .0
+
+      settled : Settled r n (plan c end n (task-of r n)) e
+      settled = subst (λ x. Settled r n (plan c x n (task-of r n)) e) a (h .1 .settled)
+
+      left : Settled r n (go [] (leaving (end-weight c) (task-of r n))) e
+      left =
+          subst (λ p. Settled r n p e) (end-plan c n (task-of r n) (settled-ready c r n (task-of r n) e end settled)) settled
+
+  -- "has ended": state 3
+  abbrev Ended : Run → ℕ → Type 0
+  Ended r n = task-of r n .state ≡ 3
+
+  led-ended : (s r : Run) (n : ℕ) → Valid c s → Led c s r → Ended s n → Ended r n
+  led-ended s r n v h q = ap (λ t. t .state) (sym (reach-ended c ok r (h .0) s n v (h .1) q)) ∙ q
+
+  -- "job n has ended by the first side's K-th turn"
+  ended-by :
+      (ps : List Ply) (bs : List Call) (n k : ℕ) (s r f : Run) → Valid c s → Makes c s bs f → ends-at n k bs ≡ true
+      → k ≤ turns ps → Led c s r → Ended (after-play c r ps) n
+  unfolding after-play after-ply turns
+  ended-by [] bs n zero s r f v h q l led = absurd (no-place n bs q)
+  ended-by [] bs n (suc k) s r f v h q l led = let bad : ⊥ = omega arith in absurd bad
+  ended-by (other b ∷ ps) bs n k s r f v h q l led = ended-by ps bs n k s (after c r b) f v h q l (led-after c s r b led)
+  ended-by (turn ∷ ps) [] n k s r f v h q l led = absurd (false≢true (unfold ends-at in q))
+  ended-by (turn ∷ ps) (b ∷ bs) n zero s r f v h q l led = absurd (no-place n (b ∷ bs) q)
+  ended-by (turn ∷ ps) (b ∷ bs) n (suc zero) s r f v h q l led =
+      led-ended s₁ (after-play c (after-move c r) ps) n (call-valid c ok s s₁ b v (h .1))
+      (led-play c ps s₁ (after-move c r) (catch-up (led .0) s s₁ r b v (h .1) (h .3) (led .1)))
+      (subst (Ended s₁) (last .1) (end-ends s s₁ b v (h .1) (last .0)))
+    where
+      s₁ : Run
+      s₁ = h .0
+
+      last : (b .action ≡ end) × (b .task ≡ n)
+      last = first-ends n b bs q
+  ended-by (turn ∷ ps) (b ∷ bs) n (suc (suc k)) s r f v h q l led =
+      ended-by ps bs n (suc k) (h .0) (after-move c r) f (call-valid c ok s (h .0) b v (h .1)) (h .2) (unfold ends-at in q)
+      (omega arith) (catch-up (led .0) s (h .0) r b v (h .1) (h .3) (led .1))
+
+  -- not before the call that ends it
+  unended :
+      (bs : List Call) (n k : ℕ) (s f : Run) → Valid c s → Makes c s bs f → ends-at n k bs ≡ true → Ended s n → ⊥
+  unended [] n k s f v h q e = false≢true (unfold ends-at in q)
+  unended (b ∷ bs) n zero s f v h q e = no-place n (b ∷ bs) q
+  unended (b ∷ bs) n (suc zero) s f v h q e = active (v .active (b .task) (call-accept c s b (h .0) (h .1) .1 .present))
+    where
+      was : task-of s (b .task) .state ≡ 3
+      was = subst (Ended s) (sym (first-ends n b bs q .1)) e
+
+      active : (task-of s (b .task) .state ≡ 1) ⊎ (task-of s (b .task) .state ≡ 2) → ⊥
+      active (inl p) = omega (arith, was)
+      active (inr p) = omega (arith, was)
+  unended (b ∷ bs) n (suc (suc k)) s f v h q e =
+      unended bs n (suc k) (h .0) f (call-valid c ok s (h .0) b v (h .1)) (h .2) (unfold ends-at in q)
+      (ap (λ t. t .state) (ended-stays c ok s (h .0) b n v (h .1) e) ∙ e)
+
+  -- "If the other side's calls are all refused", the play is the sequential run so far
+  unended-before :
+      (ps : List Ply) (bs : List Call) (n k : ℕ) (s f : Run) → Valid c s → Makes c s bs f → ends-at n k bs ≡ true
+      → others-accepted c s ps ≡ 0 → turns ps < k → Ended (after-play c s ps) n → ⊥
+  unfolding after-play after-ply turns others-accepted others-call
+  unended-before [] bs n k s f v h q o l e = unended bs n k s f v h q e
+  unended-before (other b ∷ ps) bs n k s f v h q o l e = look (unended-before ps bs n k) (call c s b) refl
+    where
+      look :
+          ((x y : Run) → Valid c x → Makes c x bs y → ends-at n k bs ≡ true → others-accepted c x ps ≡ 0 → turns ps < k
+          → Ended (after-play c x ps) n → ⊥)
+          → (z : Option Run) → call c s b ≡ z → ⊥
+      look ih none p =
+          let same = refused-same c s b p in
+          ih s f v h q (subst (λ x. others-accepted c x ps ≡ 0) same (omega (arith, o))) l (subst (λ x. Ended (after-play c x ps) n) same e)
+      look ih (some s′) p = let one : one-if (call c s b) ≡ 1 = ap one-if p in omega (arith, o)
+  unended-before (turn ∷ ps) [] n k s f v h q o l e = false≢true (unfold ends-at in q)
+  unended-before (turn ∷ ps) (b ∷ bs) n zero s f v h q o l e = no-place n (b ∷ bs) q
+  unended-before (turn ∷ ps) (b ∷ bs) n (suc zero) s f v h q o l e = omega (arith, l)
+  unended-before (turn ∷ ps) (b ∷ bs) n (suc (suc k)) s f v h q o l e =
+      let same = move-foremost s (h .0) b v (h .1) (h .3) in
+      unended-before ps bs n (suc k) (h .0) f (call-valid c ok s (h .0) b v (h .1)) (h .2) (unfold ends-at in q)
+      (subst (λ x. others-accepted c x ps ≡ 0) same (omega (arith, o)))
+      (omega (arith, l))
+      (subst (λ x. Ended (after-play c x ps) n) same e)
+
+-- What holds of the run r after a play from the initial run.
+pub record HeldUp (c : Context) (memory : List ℕ) (play : List Ply) (r : Run) : Type 0 where
+  -- "If the hand run ends job n with its K-th call, job n has ended by the first side's K-th turn."
+  pub by-turn : (n k : ℕ) → ends-with c memory n k ≡ true → k ≤ turns play → task-of r n .state ≡ 3
+  -- "If the other side's calls are all refused, it ends on exactly that turn.": it has not ended before
+  pub on-turn :
+      (n k : ℕ) → ends-with c memory n k ≡ true → others-accepted c (initial c memory) play ≡ 0 → turns play < k
+      → task-of r n .state ≡ 3 → ⊥
+  -- "25 where no job is left": where a turn never comes, the task has ended
+  pub none-left : r .order ≡ [] → move c r ≡ refuse 25
+  pub all-ended : (n k : ℕ) → ends-with c memory n k ≡ true → r .order ≡ [] → task-of r n .state ≡ 3
+  -- "the only refusal of that move"
+  pub accepted : (r .order ≡ [] → ⊥) → (e : Effect) × (move c r ≡ accept e)
+
+-- the move on any run
+move-none : (c : Context) (r : Run) → r .order ≡ [] → move c r ≡ refuse 25
+unfolding move
+move-none c r q = ap (λ o. decide-move c r (foremost-call c r o)) q ∙ unfold foremost-call decide-move in refl
+
+pub move-accepted :
+    (c : Context) → Accepted (c .list) → (r : Run) → Valid c r → (r .order ≡ [] → ⊥) → (e : Effect) × (move c r ≡ accept e)
+unfolding move
+move-accepted c ok r v left = look (r .order) refl
+  where
+    look : (o : List ℕ) → r .order ≡ o → (e : Effect) × (move c r ≡ accept e)
+    look [] q = absurd (left q)
+    look (n ∷ rest) q =
+        let found = next-accepted c ok r n rest v q in (
+          found .0,
+          ap (λ o. decide-move c r (foremost-call c r o)) q
+          ∙ unfold foremost-call decide-move in accept-decide c r (next-call c r n) (found .0) (found .1),
+        )
+
+turns-only : (k : ℕ) → k ≤ turns (replicate k turn)
+unfolding turns
+turns-only zero = omega arith
+turns-only (suc k) = let h = turns-only k in omega (arith, h)
+
+pub held-up :
+    (c : Context) → Accepted (c .list) → (memory : List ℕ) (play : List Ply)
+    → HeldUp c memory play (after-play c (initial c memory) play)
+unfolding ends-with
+held-up c ok memory play =
+    record {
+      by-turn = by-turn play;
+      on-turn = λ n k q o l e. unended-before c ok play (trace c memory) n k r₀ (sequential c memory) v₀ w q o l e;
+      none-left = move-none c (after-play c r₀ play);
+      all-ended = λ n k q left.
+          let turns-of-it = replicate k turn in
+          ap (λ t. t .state)
+          (ap (λ x. task-of x n) (played-whole play left) ∙ sym (played-ended turns-of-it n (by-turn turns-of-it n k q (turns-only k))))
+          ∙ by-turn turns-of-it n k q (turns-only k);
+      accepted = move-accepted c ok (after-play c r₀ play) (played-valid play);
+    }
+  where
+    r₀ : Run
+    r₀ = initial c memory
+
+    v₀ : Valid c r₀
+    v₀ = initial-valid c ok memory
+
+    w : Makes c r₀ (trace c memory) (sequential c memory)
+    w = sequential-whole c ok memory .makes
+
+    by-turn :
+        (ps : List Ply) (n k : ℕ) → ends-at n k (trace c memory) ≡ true → k ≤ turns ps
+        → task-of (after-play c r₀ ps) n .state ≡ 3
+    by-turn ps n k q l = ended-by c ok ps (trace c memory) n k r₀ r₀ (sequential c memory) v₀ w q l (0, refl)
+
+    played-valid : (ps : List Ply) → Valid c (after-play c r₀ ps)
+    played-valid ps = let h = played c ps r₀ in subst (Valid c) (sym (h .1)) (sequential-ahead c ok memory (h .0) .2)
+
+    played-ended :
+        (ps : List Ply) (n : ℕ) → task-of (after-play c r₀ ps) n .state ≡ 3
+        → task-of (after-play c r₀ ps) n ≡ task-of (sequential c memory) n
+    played-ended ps n =
+        let h = played c ps r₀ in
+        subst (λ x. task-of x n .state ≡ 3 → task-of x n ≡ task-of (sequential c memory) n) (sym (h .1))
+        (guarantee c ok memory (h .0) .ended n)
+
+    played-whole : (ps : List Ply) → after-play c r₀ ps .order ≡ [] → after-play c r₀ ps ≡ sequential c memory
+    played-whole ps =
+        let h = played c ps r₀ in
+        subst (λ x. x .order ≡ [] → x ≡ sequential c memory) (sym (h .1)) (guarantee c ok memory (h .0) .whole)

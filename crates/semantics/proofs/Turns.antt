@@ -8,26 +8,28 @@ use mathlib.Core.Option.{Option, none, some, Option·some-injective}
 use mathlib.Core.Logic.{_⊎_, inl, inr, _≢_}
 use native.Mathlib.Decide.{ℕ-discrete}
 use native.Mathlib.Omega.{arith}
-use lib.ListN.{replicate}
+use lib.ListN.{getD, replicate}
 use lib.Dec.{eqb}
 use borrow.Author.Tests.{eq-eqb, ne-eqb, eqb-true}
 use Rattle.tasklist.specs.Accepted.{Accepted}
-use Rattle.semantics.specs.Run.{Task, Run, Context, task-of, end-weight, initial}
-use Rattle.semantics.specs.Effect.{Effect, go, leaving}
-use Rattle.semantics.specs.Plan.{Action, start, step, end, at-end, plan}
-use Rattle.semantics.specs.Call.{Call, Outcome, refuse, accept, splice, places, apply, decide, call, or-same, after, after-all, one-if}
+use Rattle.semantics.specs.Run.{Task, Run, Context, task-of, start-weight, end-weight, root, initial}
+use Rattle.semantics.specs.Effect.{Effect, Plan, stop, go, fetch, own, in-state, leaving}
+use Rattle.semantics.specs.Plan.{Action, start, step, end, at-end, needs-from, plan}
+use Rattle.semantics.specs.Call.{Call, refuse, accept, among, splice, places, apply, call, or-same, after, after-all, one-if}
 use Rattle.semantics.specs.Sequential.{sequential, trace}
 use Rattle.semantics.specs.Turns.{next-action, next-call, foremost-call, decide-move, move, after-move-by, after-move, Ply, turn, other, after-ply, after-play, turns, others-call, others-accepted, is-end, ends-at, ends-with}
 use Rattle.semantics.specs.Sound.{In, Valid}
 use Rattle.semantics.proofs.Confluence.{Reach, Meet, same-result}
-use Rattle.semantics.proofs.Order.{and-left, and-right, splice-other}
+use Rattle.semantics.proofs.Order.{and-left, and-right, among-in, in-among, splice-other}
+use Rattle.semantics.proofs.Apply.{numbers, touched, numbers-in, task-other}
 use Rattle.semantics.proofs.Decide.{Settled, Accepts, accept-decide, accept-call, call-accept, settled-ready, one-call}
+use Rattle.semantics.proofs.Valid.{never-state, accepted-fair, made-record}
 use Rattle.semantics.proofs.Diamond.{diamond}
-use Rattle.semantics.proofs.Kept.{self-record, call-valid, initial-valid}
-use Rattle.semantics.proofs.Front.{end-plan, front-in, front-start, front-step, front-end}
+use Rattle.semantics.proofs.Kept.{self-record, call-valid, blanks, initial-valid}
+use Rattle.semantics.proofs.Front.{Stepping, stepping-plan, start-plan, end-plan, front-in, front-start, front-step, front-end}
 use Rattle.semantics.proofs.Sequential.{Foremost, Makes, after-call, below, sequential-whole}
 use Rattle.semantics.proofs.Reached.{ended-stays, reach-ended, sequential-ahead}
-use Rattle.semantics.proofs.Guarantee.{guarantee}
+use Rattle.semantics.proofs.Guarantee.{Guarantee, guarantee}
 
 -- r is reached from s by some accepted calls
 abbrev Led : Context → Run → Run → Type 0
@@ -281,6 +283,91 @@ module _ (c : Context) (ok : Accepted (c .list)) where
       (omega (arith, l))
       (subst (λ x. Ended (after-play c x ps) n) same e)
 
+  -- a task has ended by no call but its own end
+  only-end :
+      (r r′ : Run) (b : Call) (n : ℕ) → Valid c r → call c r b ≡ some r′ → (Ended r n → ⊥) → Ended r′ n
+      → (b .action ≡ end) × (b .task ≡ n)
+  only-end r r′ b n v q before now = sort (ℕ-discrete (b .task) n)
+    where
+      h : (e : Effect) × Accepts c r b e × (apply (b .task) e r ≡ r′)
+      h = call-accept c r b r′ q
+
+      e : Effect
+      e = h .0
+
+      t : Task
+      t = task-of r (b .task)
+
+      now-there : Ended (apply (b .task) e r) n
+      now-there = subst (λ x. Ended x n) (sym (h .2)) now
+
+      alive : e .task .state ≡ 2 → b .task ≡ n → ⊥
+      alive s p =
+          let k : e .task .state ≡ 3 = ap (λ x. x .state) (sym (self-record c ok r v b e (h .1) n (sym p))) ∙ now-there in omega (arith, s)
+
+      -- a step stays
+      stepped : (p : Plan) → Stepping c t p → Settled r (b .task) p e → e .leaves ≡ false
+      stepped (stop k) o s = absurd o
+      stepped (go gs d) o s = ap (λ x. x .leaves) (sym (s .1)) ∙ o .remains
+      stepped (fetch a f) o s = ap (λ x. x .leaves) (sym (s .1)) ∙ o (getD (r .memory) a 0) .remains
+
+      own-call : b .task ≡ n → (a : Action) → b .action ≡ a → a ≡ end
+      own-call p start a = absurd (alive (ap (λ x. x .task .state) (sym (begun .1))) p)
+        where
+          settled : Settled r (b .task) (plan c start (b .task) t) e
+          settled = subst (λ x. Settled r (b .task) (plan c x (b .task) t) e) a (h .1 .settled)
+
+          begun : Settled r (b .task) (go (needs-from 0 (t .modes)) (own (start-weight c) (in-state 2 t))) e
+          begun = subst (λ x. Settled r (b .task) x e) (start-plan c (b .task) t (settled-ready c r (b .task) t e start settled)) settled
+      own-call p step a = absurd (alive (accepted-fair c ok r v b e (h .1) .alive remains) p)
+        where
+          settled : Settled r (b .task) (plan c step (b .task) t) e
+          settled = subst (λ x. Settled r (b .task) (plan c x (b .task) t) e) a (h .1 .settled)
+
+          remains : e .leaves ≡ false
+          remains =
+              stepped (plan c step (b .task) t) (stepping-plan c (b .task) t (settled-ready c r (b .task) t e step settled)) settled
+      own-call p end a = refl
+
+      -- neither a task made nor one that the call leaves alone
+      other-task : b .task ≢ n → (x : Bool) → among n (numbers (e .made)) ≡ x → ⊥
+      other-task ne true m =
+          let x = numbers-in n (e .made) (among-in n (numbers (e .made)) m) in
+          let waiting : task-of (apply (b .task) e r) n .state ≡ 1 =
+          ap (λ z. z .state) (ap (task-of (apply (b .task) e r)) (x .2) ∙ made-record c ok r v b e (h .1) (x .0) (x .1))
+          ∙ accepted-fair c ok r v b e (h .1) .born (x .0) (x .1) .waiting in
+          omega (arith, now-there)
+      other-task ne false m = before (ap (λ z. z .state) (sym (task-other (b .task) e r n absent)) ∙ now-there)
+        where
+          absent : In n (touched (b .task) e) → ⊥
+          absent (inl p) = ne (sym p)
+          absent (inr i) = false≢true (sym m ∙ in-among n (numbers (e .made)) i)
+
+      sort : Dec (b .task ≡ n) → (b .action ≡ end) × (b .task ≡ n)
+      sort (yes p) = (own-call p (b .action) refl, p)
+      sort (no ne) = absurd (other-task ne (among n (numbers (e .made))) refl)
+
+  ends-some :
+      (bs : List Call) (n : ℕ) (s f : Run) → Valid c s → Makes c s bs f → (Ended s n → ⊥) → Ended f n
+      → (k : ℕ) × (ends-at n k bs ≡ true)
+  ends-some [] n s f v h before now = absurd (before (subst (λ x. Ended x n) (sym h) now))
+  ends-some (b ∷ bs) n s f v h before now = sort (ends-some bs n (h .0) f) (ℕ-discrete (task-of (h .0) n .state) 3)
+    where
+      v₁ : Valid c (h .0)
+      v₁ = call-valid c ok s (h .0) b v (h .1)
+
+      later : (k : ℕ) → ends-at n k bs ≡ true → (j : ℕ) × (ends-at n j (b ∷ bs) ≡ true)
+      later zero q = absurd (no-place n bs q)
+      later (suc k) q = (suc (suc k), unfold ends-at in q)
+
+      sort :
+          (Valid c (h .0) → Makes c (h .0) bs f → (Ended (h .0) n → ⊥) → Ended f n → (k : ℕ) × (ends-at n k bs ≡ true))
+          → Dec (task-of (h .0) n .state ≡ 3) → (j : ℕ) × (ends-at n j (b ∷ bs) ≡ true)
+      sort ih (yes p) =
+          let x = only-end s (h .0) b n v (h .1) before p in
+          (1, unfold ends-at in rw (ap is-end (x .0), eq-eqb (b .task) n (x .1)) (unfold is-end in refl))
+      sort ih (no p) = let more = ih v₁ (h .2) p now in later (more .0) (more .1)
+
 -- What holds of the run r after a play from the initial run.
 pub record HeldUp (c : Context) (memory : List ℕ) (play : List Ply) (r : Run) : Type 0 where
   -- "If the hand run ends job n with its K-th call, job n has ended by the first side's K-th turn."
@@ -328,11 +415,7 @@ held-up c ok memory play =
       by-turn = by-turn play;
       on-turn = λ n k q o l e. unended-before c ok play (trace c memory) n k r₀ (sequential c memory) v₀ w q o l e;
       none-left = move-none c (after-play c r₀ play);
-      all-ended = λ n k q left.
-          let turns-of-it = replicate k turn in
-          ap (λ t. t .state)
-          (ap (λ x. task-of x n) (played-whole play left) ∙ sym (played-ended turns-of-it n (by-turn turns-of-it n k q (turns-only k))))
-          ∙ by-turn turns-of-it n k q (turns-only k);
+      all-ended = all-ended;
       accepted = move-accepted c ok (after-play c r₀ play) (played-valid play);
     }
   where
@@ -350,18 +433,36 @@ held-up c ok memory play =
         → task-of (after-play c r₀ ps) n .state ≡ 3
     by-turn ps n k q l = ended-by c ok ps (trace c memory) n k r₀ r₀ (sequential c memory) v₀ w q l (0, refl)
 
+    -- a play leads where some calls lead
+    calls : (ps : List Ply) → (bs : List Call) × (after-play c r₀ ps ≡ after-all c r₀ bs)
+    calls ps = played c ps r₀
+
     played-valid : (ps : List Ply) → Valid c (after-play c r₀ ps)
-    played-valid ps = let h = played c ps r₀ in subst (Valid c) (sym (h .1)) (sequential-ahead c ok memory (h .0) .2)
+    played-valid ps = subst (Valid c) (sym (calls ps .1)) (sequential-ahead c ok memory (calls ps .0) .2)
 
-    played-ended :
-        (ps : List Ply) (n : ℕ) → task-of (after-play c r₀ ps) n .state ≡ 3
-        → task-of (after-play c r₀ ps) n ≡ task-of (sequential c memory) n
-    played-ended ps n =
-        let h = played c ps r₀ in
-        subst (λ x. task-of x n .state ≡ 3 → task-of x n ≡ task-of (sequential c memory) n) (sym (h .1))
-        (guarantee c ok memory (h .0) .ended n)
+    guaranteed : (ps : List Ply) → Guarantee c memory (calls ps .0) (after-play c r₀ ps)
+    guaranteed ps = subst (Guarantee c memory (calls ps .0)) (sym (calls ps .1)) (guarantee c ok memory (calls ps .0))
 
-    played-whole : (ps : List Ply) → after-play c r₀ ps .order ≡ [] → after-play c r₀ ps ≡ sequential c memory
-    played-whole ps =
-        let h = played c ps r₀ in
-        subst (λ x. x .order ≡ [] → x ≡ sequential c memory) (sym (h .1)) (guarantee c ok memory (h .0) .whole)
+    all-ended :
+        (n k : ℕ) → ends-at n k (trace c memory) ≡ true → after-play c r₀ play .order ≡ []
+        → task-of (after-play c r₀ play) n .state ≡ 3
+    all-ended n k q left =
+        let ps = replicate k turn in
+        let done = by-turn ps n k q (turns-only k) in
+        ap (λ x. task-of x n .state) (guaranteed play .whole left) ∙ ap (λ t. t .state) (sym (guaranteed ps .ended n done)) ∙ done
+
+fresh-unended : (c : Context) (memory : List ℕ) (n : ℕ) → task-of (initial c memory) n .state ≡ 3 → ⊥
+unfolding initial root
+fresh-unended c memory zero q = omega arith
+fresh-unended c memory (suc n) q = let z = ap (λ t. t .state) (blanks n 127) ∙ never-state in omega (arith, q)
+
+-- every task that the hand run ends has its K
+pub ends-with-some :
+    (c : Context) → Accepted (c .list) → (memory : List ℕ) (n : ℕ) → task-of (sequential c memory) n .state ≡ 3
+    → (k : ℕ) × (ends-with c memory n k ≡ true)
+unfolding ends-with
+ends-with-some c ok memory n q =
+    ends-some c ok (trace c memory) n (initial c memory) (sequential c memory) (initial-valid c ok memory)
+    (sequential-whole c ok memory .makes)
+    (fresh-unended c memory n)
+    q

@@ -22,10 +22,10 @@ use Rattle.semantics.specs.Plan.{unless-fault, plan-load, plan-store, pl
 use Rattle.semantics.specs.Call.{Call, hold, admit, settle, among, decide, edited, written, splice, stays, places, changes, apply, taken, call, after, after-all}
 use Rattle.semantics.specs.Search.{search-from, search, hold-number}
 use Rattle.semantics.specs.Sequential.{start-of, step-of, end-of, run-each, step-through, steps-through, enough, run-whole, sequential, trace-each, trace-steps, trace-whole, trace}
-use Rattle.semantics.specs.Turns.{Ply, turn, other, next-action, next-call, foremost-call, decide-move, move, after-move-by, after-move, after-ply, after-play, is-end, ends-at, ends-with}
+use Rattle.semantics.specs.Turns.{Ply, turn, other, next-action, next-call, foremost-call, decide-move, move, after-move-by, after-move, after-ply, after-play, turns, others-call, others-accepted, is-end, ends-at, ends-with}
 use Rattle.semantics.specs.Operations.{with-weights, with-list, open-asked, sequential-asked, queue-places}
 use Rattle.semantics.specs.Answers.{outcome-number}
-use Rattle.semantics.specs.Case.{Case, by-hand, by-hand-under, by-calls, by-play, ends-by-hand, tasks-in, refused-with, opens-with, memory-is, order-is, queue-is, state-is, fault-is, registers-are, calls-are, weight-is, same, is-so, answers, ply-answer, play-answers, has-tasks, is-refused, all-so, asked-number, holds, search-is}
+use Rattle.semantics.specs.Case.{Case, by-hand, by-hand-under, by-calls, by-play, play-has, ends-by-hand, tasks-in, refused-with, opens-with, memory-is, order-is, queue-is, state-is, fault-is, registers-are, calls-are, weight-is, same, is-so, answers, ply-answer, play-answers, has-tasks, is-refused, all-so, asked-number, holds, search-is}
 
 -- two locations; footprints: read 0; read and write 0
 abbrev small : List (List Instruction) → TaskList
@@ -166,6 +166,14 @@ tower more =
 -- a table of weights
 abbrev primes : List ℕ
 primes = 3 ∷ 5 ∷ 7 ∷ 11 ∷ 13 ∷ 17 ∷ 19 ∷ 23 ∷ 29 ∷ 31 ∷ 37 ∷ 41 ∷ 43 ∷ []
+
+-- plays with P: the other side's calls are all refused; or it makes both children and ends job 0
+abbrev refused-between : List Ply
+refused-between =
+    other (start-of 1) ∷ other (end-of 0) ∷ turn ∷ turn ∷ other (start-of 200) ∷ turn ∷ turn ∷ turn ∷ other (start-of 0) ∷ []
+
+abbrev pushed-ahead : List Ply
+pushed-ahead = map other (start-of 0 ∷ step-of 0 ∷ step-of 0 ∷ start-of 2 ∷ end-of 0 ∷ []) ++ replicate 4 turn
 
 -- start 0, step 0, step 0
 abbrev opening : List Call
@@ -362,15 +370,11 @@ cases =
     by-play P (5 ∷ 7 ∷ []) (replicate 14 turn) (replicate 13 0 ++ (25 ∷ []))
     (state-is 0 3 ∷ memory-is (9 ∷ 9 ∷ []) ∷ calls-are 13 ∷ weight-is 50 ∷ order-is [] ∷ []) ∷
     -- calls of the other side that are all refused change nothing
-    by-play P (5 ∷ 7 ∷ [])
-    (other (start-of 1) ∷ other (end-of 0) ∷ turn ∷ turn ∷ other (start-of 200) ∷ turn ∷ turn ∷ turn ∷ other (start-of 0) ∷ [])
-    (10 ∷ 13 ∷ 0 ∷ 0 ∷ 9 ∷ 0 ∷ 0 ∷ 0 ∷ 11 ∷ [])
-    (state-is 1 2 ∷ calls-are 5 ∷ []) ∷
+    by-play P (5 ∷ 7 ∷ []) refused-between (10 ∷ 13 ∷ 0 ∷ 0 ∷ 9 ∷ 0 ∷ 0 ∷ 0 ∷ 11 ∷ []) (state-is 1 2 ∷ calls-are 5 ∷ []) ∷
+    play-has P (5 ∷ 7 ∷ []) refused-between 5 0 ∷
     -- the other side makes both children and ends job 0: job 1 has ended after 4 turns, before its 6th
-    by-play P (5 ∷ 7 ∷ [])
-    (map other (start-of 0 ∷ step-of 0 ∷ step-of 0 ∷ start-of 2 ∷ end-of 0 ∷ []) ++ replicate 4 turn)
-    (0 ∷ 0 ∷ 0 ∷ 19 ∷ 0 ∷ 0 ∷ 0 ∷ 0 ∷ 0 ∷ [])
-    (state-is 1 3 ∷ order-is (2 ∷ []) ∷ []) ∷
+    by-play P (5 ∷ 7 ∷ []) pushed-ahead (0 ∷ 0 ∷ 0 ∷ 19 ∷ 0 ∷ 0 ∷ 0 ∷ 0 ∷ 0 ∷ []) (state-is 1 3 ∷ order-is (2 ∷ []) ∷ []) ∷
+    play-has P (5 ∷ 7 ∷ []) pushed-ahead 4 4 ∷
     -- the other side runs job 1 whole: after 6 turns no job is left, and job 2's 12th never comes
     by-play P (5 ∷ 7 ∷ [])
     (map other (opening ++ (start-of 1 ∷ step-of 1 ∷ step-of 1 ∷ end-of 1 ∷ [])) ++ replicate 7 turn)
@@ -404,5 +408,5 @@ cases =
     (fault-is 2 2 ∷ order-is (1 ∷ 2 ∷ 0 ∷ []) ∷ []) ∷ []
 
 pub cases-hold : every holds cases ≡ true
-unfolding body-of footprint-of instruction-of total adds count-body count-from counts task-count field is-tag tag in-range number counted many row head-numbers head line-limit line-ok is-line line footprint forms form spawn-ok instruction-ok is-instruction instruction body list-behind sized finish decode Decode.register instruction-fields line-fields joined footprint-bytes body-bytes head-bytes encode no-modes never fixed-weights weight-places is-weight weight-of root-modes root initial every any only ahead queue behind-writer compatible allowed access-fault unless-fault plan-load plan-store plan-wait plan-sum passed-over targets all-targets merged unless-denied grant child-modes with-first children fan-of numbered-from child-number plan-make plan-instruction units step-weight at-end needs-from plan-start plan-step plan-end plan hold admit search-from search hold-number settle among decide edited written splice stays places changes apply taken call after after-all run-each step-through steps-through enough run-whole sequential trace-each trace-steps trace-whole trace next-action next-call foremost-call decide-move move after-move-by after-move after-ply after-play is-end ends-at ends-with with-weights with-list open-asked sequential-asked queue-places outcome-number same is-so answers ply-answer play-answers has-tasks is-refused all-so asked-number holds
+unfolding body-of footprint-of instruction-of total adds count-body count-from counts task-count field is-tag tag in-range number counted many row head-numbers head line-limit line-ok is-line line footprint forms form spawn-ok instruction-ok is-instruction instruction body list-behind sized finish decode Decode.register instruction-fields line-fields joined footprint-bytes body-bytes head-bytes encode no-modes never fixed-weights weight-places is-weight weight-of root-modes root initial every any only ahead queue behind-writer compatible allowed access-fault unless-fault plan-load plan-store plan-wait plan-sum passed-over targets all-targets merged unless-denied grant child-modes with-first children fan-of numbered-from child-number plan-make plan-instruction units step-weight at-end needs-from plan-start plan-step plan-end plan hold admit search-from search hold-number settle among decide edited written splice stays places changes apply taken call after after-all run-each step-through steps-through enough run-whole sequential trace-each trace-steps trace-whole trace next-action next-call foremost-call decide-move move after-move-by after-move after-ply after-play turns others-call others-accepted is-end ends-at ends-with with-weights with-list open-asked sequential-asked queue-places outcome-number same is-so answers ply-answer play-answers has-tasks is-refused all-so asked-number holds
 cases-hold = refl

@@ -152,8 +152,8 @@ module _ (c : Context) (ok : Accepted (c .list)) where
       let xs = places (d .task) (h .0) in (
         splice (d .task) xs (front .0),
         ap (λ x. x .order) (sym (h .2))
-        ∙ unfold apply in ap (splice (d .task) xs) (front .1)
-        ∙ splice-other (d .task) (b .task) xs (front .0) ne,
+            ∙ unfold apply in ap (splice (d .task) xs) (front .1)
+            ∙ splice-other (d .task) (b .task) xs (front .0) ne,
       )
 
   -- b leads from s to s₁ and is of the foremost task there: wherever other calls lead from s, a move leads to where s₁ leads
@@ -398,7 +398,7 @@ move-accepted c ok r v left = look (r .order) refl
         let found = next-accepted c ok r n rest v q in (
           found .0,
           ap (λ o. decide-move c r (foremost-call c r o)) q
-          ∙ unfold foremost-call decide-move in accept-decide c r (next-call c r n) (found .0) (found .1),
+              ∙ unfold foremost-call decide-move in accept-decide c r (next-call c r n) (found .0) (found .1),
         )
 
 turns-only : (k : ℕ) → k ≤ turns (replicate k turn)

@@ -10,7 +10,7 @@ use Rattle.semantics.specs.Access.{Access, every}
 use Rattle.semantics.specs.Call.{Call, decide, after, after-all}
 use Rattle.semantics.specs.Search.{search, hold-number}
 use Rattle.semantics.specs.Sequential.{sequential}
-use Rattle.semantics.specs.Turns.{Ply, turn, other, move, after-ply, after-play, ends-with}
+use Rattle.semantics.specs.Turns.{Ply, turn, other, move, after-ply, after-play, turns, others-accepted, ends-with}
 use Rattle.semantics.specs.Operations.{Asked, denies, gives, open-asked, sequential-asked, queue-places}
 use Rattle.semantics.specs.Answers.{outcome-number}
 
@@ -41,6 +41,8 @@ pub data Case : Type 0 where
   by-calls : TaskList → List ℕ → List Call → List ℕ → List Fact → Case
   -- what the turns and calls of a play from the initial run answer, and the facts that hold after them
   by-play : TaskList → List ℕ → List Ply → List ℕ → List Fact → Case
+  -- how many turns a play from the initial run has, and how many accepted calls of the other side
+  play-has : TaskList → List ℕ → List Ply → ℕ → ℕ → Case
   -- the sequential run ends this task with its call of this number, counted from 1
   ends-by-hand : TaskList → List ℕ → ℕ → ℕ → Case
   -- these bytes are a list of so many tasks
@@ -107,6 +109,8 @@ holds (by-play l m ps ks facts) =
     let c = context l fixed-weights in
     let r = initial c m in
     same (play-answers c r ps) ks && every (is-so (after-play c r ps)) facts
+holds (play-has l m ps k others) =
+    let c = context l fixed-weights in eqb (turns ps) k && eqb (others-accepted c (initial c m) ps) others
 holds (ends-by-hand l m n k) = ends-with (context l fixed-weights) m n k
 holds (tasks-in bytes n) = has-tasks n (decode bytes)
 holds (refused-with bytes k) = is-refused k (decode bytes)

@@ -19,6 +19,7 @@ pub mod Reached
 pub mod Guarantee
 pub mod Trace
 pub mod Turns
+pub mod HeldUp
 -- the definitions in document 01's words
 pub mod Wording
 pub mod Rules

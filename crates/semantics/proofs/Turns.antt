@@ -8,28 +8,27 @@ use mathlib.Core.Option.{Option, none, some, Option·some-injective}
 use mathlib.Core.Logic.{_⊎_, inl, inr, _≢_}
 use native.Mathlib.Decide.{ℕ-discrete}
 use native.Mathlib.Omega.{arith}
-use lib.ListN.{getD, replicate}
+use lib.ListN.{getD}
 use lib.Dec.{eqb}
 use borrow.Author.Tests.{eq-eqb, ne-eqb, eqb-true}
 use Rattle.tasklist.specs.Accepted.{Accepted}
 use Rattle.semantics.specs.Run.{Task, Run, Context, task-of, start-weight, end-weight, root, initial}
 use Rattle.semantics.specs.Effect.{Effect, Plan, stop, go, fetch, own, in-state, leaving}
 use Rattle.semantics.specs.Plan.{Action, start, step, end, at-end, needs-from, plan}
-use Rattle.semantics.specs.Call.{Call, refuse, accept, among, splice, places, apply, call, or-same, after, after-all, one-if}
+use Rattle.semantics.specs.Call.{Call, refuse, accept, among, splice, places, apply, decide, call, or-same, after, after-all, one-if}
 use Rattle.semantics.specs.Sequential.{sequential, trace}
 use Rattle.semantics.specs.Turns.{next-action, next-call, foremost-call, decide-move, move, after-move-by, after-move, Ply, turn, other, after-ply, after-play, turns, others-call, others-accepted, is-end, ends-at, ends-with}
 use Rattle.semantics.specs.Sound.{In, Valid}
 use Rattle.semantics.proofs.Confluence.{Reach, Meet, same-result}
 use Rattle.semantics.proofs.Order.{and-left, and-right, among-in, in-among, splice-other}
 use Rattle.semantics.proofs.Apply.{numbers, touched, numbers-in, task-other}
-use Rattle.semantics.proofs.Decide.{Settled, Accepts, accept-decide, accept-call, call-accept, settled-ready, one-call}
+use Rattle.semantics.proofs.Decide.{Settled, Accepts, accept-decide, accept-call, call-accept, Ready, settled-ready, one-call}
 use Rattle.semantics.proofs.Valid.{never-state, accepted-fair, made-record}
 use Rattle.semantics.proofs.Diamond.{diamond}
 use Rattle.semantics.proofs.Kept.{self-record, call-valid, blanks, initial-valid}
 use Rattle.semantics.proofs.Front.{Stepping, stepping-plan, start-plan, end-plan, front-in, front-start, front-step, front-end}
 use Rattle.semantics.proofs.Sequential.{Foremost, Makes, after-call, below, sequential-whole}
-use Rattle.semantics.proofs.Reached.{ended-stays, reach-ended, sequential-ahead}
-use Rattle.semantics.proofs.Guarantee.{Guarantee, guarantee}
+use Rattle.semantics.proofs.Reached.{ended-stays, reach-ended}
 
 -- r is reached from s by some accepted calls
 abbrev Led : Context → Run → Run → Type 0
@@ -83,6 +82,32 @@ module _ (c : Context) where
           (b ∷ more .0, unfold after-move after-move-by in ap (λ o. after-play c (after-move-by c r o) ps) q ∙ more .1)
   played (other b ∷ ps) r = let more = played ps (after c r b) in (b ∷ more .0, more .1)
 
+-- the move, by the order
+module _ (c : Context) (r : Run) where
+  pub move-none : r .order ≡ [] → move c r ≡ refuse 25
+  unfolding move foremost-call decide-move
+  move-none q = ap (λ o. decide-move c r (foremost-call c r o)) q
+
+  pub after-move-none : r .order ≡ [] → after-move c r ≡ r
+  unfolding after-move foremost-call after-move-by
+  after-move-none q = ap (λ o. after-move-by c r (foremost-call c r o)) q
+
+  pub move-front : (n : ℕ) (rest : List ℕ) → r .order ≡ n ∷ rest → move c r ≡ decide c r (next-call c r n)
+  unfolding move foremost-call decide-move
+  move-front n rest q = ap (λ o. decide-move c r (foremost-call c r o)) q
+
+  pub after-move-front : (n : ℕ) (rest : List ℕ) → r .order ≡ n ∷ rest → after-move c r ≡ after c r (next-call c r n)
+  unfolding after-move foremost-call after-move-by
+  after-move-front n rest q = ap (λ o. after-move-by c r (foremost-call c r o)) q
+
+-- the next call of a task, by its record
+module _ (c : Context) (r : Run) (n : ℕ) where
+  pub next-ready : (a : Action) → Ready c (task-of r n) a → next-call c r n ≡ record { action = a; task = n }
+  unfolding next-call next-action
+  next-ready start h = rw (eq-eqb (task-of r n .state) 1 h) refl
+  next-ready step h = rw (ne-eqb (task-of r n .state) 1 (λ x. omega (arith, h .0)), h .1) refl
+  next-ready end h = rw (ne-eqb (task-of r n .state) 1 (λ x. omega (arith, h .0)), h .1) refl
+
 -- no call but the end is an end
 end-action : (a : Action) → is-end a ≡ true → a ≡ end
 unfolding is-end
@@ -115,27 +140,36 @@ module _ (c : Context) (ok : Accepted (c .list)) where
       here : In n (r .order)
       here = front-in c r n rest q (v .distinct)
 
-      Next : Action → Type 0
-      Next a = (e : Effect) × Accepts c r (record { action = a; task = n }) e
+      low : n < 128
+      low = below c ok r n v here
 
-      later : t .state ≡ 2 → (b : Bool) → at-end c t ≡ b → Next (next-action c t)
-      later s true a =
-          unfold next-action in
-          rw (ne-eqb (t .state) 1 (λ x. omega arith), a) (leaving (end-weight c) t, front-end c r n rest q (v .distinct) (below c ok r n v here) (s, a))
-      later s false a =
-          let found = front-step c r n rest q (v .distinct) (below c ok r n v here) (s, a) in
-          unfold next-action in rw (ne-eqb (t .state) 1 (λ x. omega arith), a) (found .0, found .1)
+      Next : Call → Type 0
+      Next b = (e : Effect) × Accepts c r b e
 
-      sort : (t .state ≡ 1) ⊎ (t .state ≡ 2) → (e : Effect) × Accepts c r (next-call c r n) e
-      sort (inl s) = unfold next-call next-action in rw (eq-eqb (t .state) 1 s) (_, front-start c r n rest q (v .distinct) (below c ok r n v here) s)
-      sort (inr s) = unfold next-call in later s (at-end c t) refl
+      started : t .state ≡ 2 → (x : Bool) → at-end c t ≡ x → Next (next-call c r n)
+      started s true a = subst Next (sym (next-ready c r n end (s, a))) (_, front-end c r n rest q (v .distinct) low (s, a))
+      started s false a =
+          let found = front-step c r n rest q (v .distinct) low (s, a) in
+          subst Next (sym (next-ready c r n step (s, a))) (found .0, found .1)
+
+      sort : (t .state ≡ 1) ⊎ (t .state ≡ 2) → Next (next-call c r n)
+      sort (inl s) = subst Next (sym (next-ready c r n start s)) (_, front-start c r n rest q (v .distinct) low s)
+      sort (inr s) = started s (at-end c t) refl
+
+  -- "the only refusal of that move"
+  pub move-accepted : (r : Run) → Valid c r → (r .order ≡ [] → ⊥) → (e : Effect) × (move c r ≡ accept e)
+  move-accepted r v left = look (r .order) refl
+    where
+      look : (o : List ℕ) → r .order ≡ o → (e : Effect) × (move c r ≡ accept e)
+      look [] q = absurd (left q)
+      look (n ∷ rest) q =
+          let found = next-accepted r n rest v q in
+          (found .0, move-front c r n rest q ∙ accept-decide c r (next-call c r n) (found .0) (found .1))
 
   -- an accepted call of the foremost task is its next call
   move-foremost : (r r′ : Run) (b : Call) → Valid c r → call c r b ≡ some r′ → Foremost r b → after-move c r ≡ r′
-  unfolding after-move
   move-foremost r r′ b v q front =
-      ap (λ o. after-move-by c r (foremost-call c r o)) (front .1)
-      ∙ unfold foremost-call after-move-by in ap (after c r) (sym same) ∙ after-call c r r′ b q
+      after-move-front c r (b .task) (front .0) (front .1) ∙ ap (after c r) (sym same) ∙ after-call c r r′ b q
     where
       found : (e : Effect) × Accepts c r (next-call c r (b .task)) e
       found = next-accepted r (b .task) (front .0) v (front .1)
@@ -217,7 +251,7 @@ module _ (c : Context) (ok : Accepted (c .list)) where
   led-ended s r n v h q = ap (λ t. t .state) (sym (reach-ended c ok r (h .0) s n v (h .1) q)) ∙ q
 
   -- "job n has ended by the first side's K-th turn"
-  ended-by :
+  pub ended-by :
       (ps : List Ply) (bs : List Call) (n k : ℕ) (s r f : Run) → Valid c s → Makes c s bs f → ends-at n k bs ≡ true
       → k ≤ turns ps → Led c s r → Ended (after-play c r ps) n
   unfolding after-play after-ply turns
@@ -258,7 +292,7 @@ module _ (c : Context) (ok : Accepted (c .list)) where
       (ap (λ t. t .state) (ended-stays c ok s (h .0) b n v (h .1) e) ∙ e)
 
   -- "If the other side's calls are all refused", the play is the sequential run so far
-  unended-before :
+  pub unended-before :
       (ps : List Ply) (bs : List Call) (n k : ℕ) (s f : Run) → Valid c s → Makes c s bs f → ends-at n k bs ≡ true
       → others-accepted c s ps ≡ 0 → turns ps < k → Ended (after-play c s ps) n → ⊥
   unfolding after-play after-ply turns others-accepted others-call
@@ -367,89 +401,6 @@ module _ (c : Context) (ok : Accepted (c .list)) where
           let x = only-end s (h .0) b n v (h .1) before p in
           (1, unfold ends-at in rw (ap is-end (x .0), eq-eqb (b .task) n (x .1)) (unfold is-end in refl))
       sort ih (no p) = let more = ih v₁ (h .2) p now in later (more .0) (more .1)
-
--- What holds of the run r after a play from the initial run.
-pub record HeldUp (c : Context) (memory : List ℕ) (play : List Ply) (r : Run) : Type 0 where
-  -- "If the hand run ends job n with its K-th call, job n has ended by the first side's K-th turn."
-  pub by-turn : (n k : ℕ) → ends-with c memory n k ≡ true → k ≤ turns play → task-of r n .state ≡ 3
-  -- "If the other side's calls are all refused, it ends on exactly that turn.": it has not ended before
-  pub on-turn :
-      (n k : ℕ) → ends-with c memory n k ≡ true → others-accepted c (initial c memory) play ≡ 0 → turns play < k
-      → task-of r n .state ≡ 3 → ⊥
-  -- "25 where no job is left": where a turn never comes, the task has ended
-  pub none-left : r .order ≡ [] → move c r ≡ refuse 25
-  pub all-ended : (n k : ℕ) → ends-with c memory n k ≡ true → r .order ≡ [] → task-of r n .state ≡ 3
-  -- "the only refusal of that move"
-  pub accepted : (r .order ≡ [] → ⊥) → (e : Effect) × (move c r ≡ accept e)
-
--- the move on any run
-move-none : (c : Context) (r : Run) → r .order ≡ [] → move c r ≡ refuse 25
-unfolding move
-move-none c r q = ap (λ o. decide-move c r (foremost-call c r o)) q ∙ unfold foremost-call decide-move in refl
-
-pub move-accepted :
-    (c : Context) → Accepted (c .list) → (r : Run) → Valid c r → (r .order ≡ [] → ⊥) → (e : Effect) × (move c r ≡ accept e)
-unfolding move
-move-accepted c ok r v left = look (r .order) refl
-  where
-    look : (o : List ℕ) → r .order ≡ o → (e : Effect) × (move c r ≡ accept e)
-    look [] q = absurd (left q)
-    look (n ∷ rest) q =
-        let found = next-accepted c ok r n rest v q in (
-          found .0,
-          ap (λ o. decide-move c r (foremost-call c r o)) q
-              ∙ unfold foremost-call decide-move in accept-decide c r (next-call c r n) (found .0) (found .1),
-        )
-
-turns-only : (k : ℕ) → k ≤ turns (replicate k turn)
-unfolding turns
-turns-only zero = omega arith
-turns-only (suc k) = let h = turns-only k in omega (arith, h)
-
-pub held-up :
-    (c : Context) → Accepted (c .list) → (memory : List ℕ) (play : List Ply)
-    → HeldUp c memory play (after-play c (initial c memory) play)
-unfolding ends-with
-held-up c ok memory play =
-    record {
-      by-turn = by-turn play;
-      on-turn = λ n k q o l e. unended-before c ok play (trace c memory) n k r₀ (sequential c memory) v₀ w q o l e;
-      none-left = move-none c (after-play c r₀ play);
-      all-ended = all-ended;
-      accepted = move-accepted c ok (after-play c r₀ play) (played-valid play);
-    }
-  where
-    r₀ : Run
-    r₀ = initial c memory
-
-    v₀ : Valid c r₀
-    v₀ = initial-valid c ok memory
-
-    w : Makes c r₀ (trace c memory) (sequential c memory)
-    w = sequential-whole c ok memory .makes
-
-    by-turn :
-        (ps : List Ply) (n k : ℕ) → ends-at n k (trace c memory) ≡ true → k ≤ turns ps
-        → task-of (after-play c r₀ ps) n .state ≡ 3
-    by-turn ps n k q l = ended-by c ok ps (trace c memory) n k r₀ r₀ (sequential c memory) v₀ w q l (0, refl)
-
-    -- a play leads where some calls lead
-    calls : (ps : List Ply) → (bs : List Call) × (after-play c r₀ ps ≡ after-all c r₀ bs)
-    calls ps = played c ps r₀
-
-    played-valid : (ps : List Ply) → Valid c (after-play c r₀ ps)
-    played-valid ps = subst (Valid c) (sym (calls ps .1)) (sequential-ahead c ok memory (calls ps .0) .2)
-
-    guaranteed : (ps : List Ply) → Guarantee c memory (calls ps .0) (after-play c r₀ ps)
-    guaranteed ps = subst (Guarantee c memory (calls ps .0)) (sym (calls ps .1)) (guarantee c ok memory (calls ps .0))
-
-    all-ended :
-        (n k : ℕ) → ends-at n k (trace c memory) ≡ true → after-play c r₀ play .order ≡ []
-        → task-of (after-play c r₀ play) n .state ≡ 3
-    all-ended n k q left =
-        let ps = replicate k turn in
-        let done = by-turn ps n k q (turns-only k) in
-        ap (λ x. task-of x n .state) (guaranteed play .whole left) ∙ ap (λ t. t .state) (sym (guaranteed ps .ended n done)) ∙ done
 
 fresh-unended : (c : Context) (memory : List ℕ) (n : ℕ) → task-of (initial c memory) n .state ≡ 3 → ⊥
 unfolding initial root

@@ -1,5 +1,6 @@
--- Field by field.
+-- The steps are one more.
 -- Assumes nothing.
+use Prim.Native.Nat.{ℕ}
 use mathlib.Core.Path.{ap}
 use borrow.Author.Needs.{needs}
 use Rattle.records.proofs.record.failed.Statement.{statement}
@@ -13,7 +14,16 @@ wrapping-add-u32-requires c κs = search needs
 
 returns : tie.Need-returns
 returns c =
-    cc
+    let a = c .before .args in
+    ap (λ (n : ℕ). record {
+      state = a .own .state;
+      body = a .own .body;
+      pc = a .own .pc;
+      registers = a .own .registers;
+      steps = n;
+      fault = a .fault;
+      weight = a .own .weight;
+    }) (c .wrapping-add-u32 .ensures)
 
 pub failed-spec : {M : Type 1} → statement M
 failed-spec = tie.close (tie.spec wrapping-add-u32-requires returns)

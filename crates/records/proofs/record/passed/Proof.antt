@@ -1,6 +1,5 @@
 -- Field by field.
 -- Assumes nothing.
-use mathlib.Core.Path.{ap}
 use borrow.Author.Needs.{needs}
 use Rattle.records.proofs.record.passed.Statement.{statement}
 use Rattle.records.proofs.record.passed.Tie as tie
@@ -19,7 +18,18 @@ wrapping-add-u32-requires-2 c κs = search needs
 
 returns : tie.Need-returns
 returns c =
-    (cc, search needs)
+    let a = c .before .before .args in (
+      λ i. record {
+        state = a .own .state;
+        body = a .own .body;
+        pc = c .before .wrapping-add-u32 .ensures i;
+        registers = a .own .registers;
+        steps = c .wrapping-add-u322 .ensures i;
+        fault = a .own .fault;
+        weight = a .own .weight;
+      },
+      search needs,
+    )
 
 pub passed-spec : {M : Type 1} → statement M
 passed-spec =

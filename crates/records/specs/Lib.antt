@@ -1,2 +1,3 @@
 -- The definitions that the promises of this crate cite.
 pub mod Records
+pub mod Quotients

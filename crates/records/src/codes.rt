@@ -8,7 +8,7 @@ use tasklist::Instruction;
 
 // The code of an instruction.
 pub fn code_of(instruction: Instruction) -> usize
-    ensures { λ r. ⌜ (r ≡ getD (instruction-fields instruction) 0 0) × (r < 11) ⌝ }
+    ensures { λ r. ⌜ (r ≡ getD (instruction-fields instruction) 0 0) × (r < 13) ⌝ }
 {
     match instruction {
         Instruction::Const {
@@ -53,6 +53,16 @@ pub fn code_of(instruction: Instruction) -> usize
             place: _,
             source: _,
         } => 10,
+        Instruction::Mul {
+            target: _,
+            left: _,
+            right: _,
+        } => 11,
+        Instruction::Div {
+            target: _,
+            left: _,
+            right: _,
+        } => 12,
     }
 }
 
@@ -110,5 +120,15 @@ pub fn units_of(instruction: Instruction) -> u32
             place: _,
             source: _,
         } => 1, // whatever it adds
+        Instruction::Mul {
+            target: _,
+            left: _,
+            right: _,
+        } => 1,
+        Instruction::Div {
+            target: _,
+            left: _,
+            right: _,
+        } => 1,
     }
 }

@@ -43,6 +43,12 @@ enum-told-10 c = search needs
 enum-told-11 : tie.Need-enum-told-11
 enum-told-11 c = search needs
 
+enum-told-12 : tie.Need-enum-told-12
+enum-told-12 c = search needs
+
+enum-told-13 : tie.Need-enum-told-13
+enum-told-13 c = search needs
+
 returns : tie.Need-returns
 unfolding instruction-fields
 returns c =
@@ -98,6 +104,16 @@ unfolding instruction-fields
 returns-11 c =
     (sym (ap (λ i. getD (instruction-fields i) 0 0) (c .enum-told11 .given .1)), omega arith)
 
+returns-12 : tie.Need-returns-12
+unfolding instruction-fields
+returns-12 c =
+    (sym (ap (λ i. getD (instruction-fields i) 0 0) (c .enum-told12 .given .1)), omega arith)
+
+returns-13 : tie.Need-returns-13
+unfolding instruction-fields
+returns-13 c =
+    (sym (ap (λ i. getD (instruction-fields i) 0 0) (c .enum-told13 .given .1)), omega arith)
+
 pub code-of-spec : {M : Type 1} → statement M
 code-of-spec =
     tie.close
@@ -113,6 +129,8 @@ code-of-spec =
     enum-told-9
     enum-told-10
     enum-told-11
+    enum-told-12
+    enum-told-13
     returns
     returns-2
     returns-3
@@ -123,4 +141,6 @@ code-of-spec =
     returns-8
     returns-9
     returns-10
-    returns-11)
+    returns-11
+    returns-12
+    returns-13)

@@ -43,6 +43,12 @@ wide-requires c κs = search needs
 enum-told-10 : tie.Need-enum-told-10
 enum-told-10 c = search needs
 
+enum-told-11 : tie.Need-enum-told-11
+enum-told-11 c = search needs
+
+enum-told-12 : tie.Need-enum-told-12
+enum-told-12 c = search needs
+
 returns : tie.Need-returns
 unfolding units
 returns c = (sym (ap units (c .enum-told .given .1)), omega arith)
@@ -87,6 +93,14 @@ returns-11 : tie.Need-returns-11
 unfolding units
 returns-11 c = (sym (ap units (c .enum-told10 .given .1)), omega arith)
 
+returns-12 : tie.Need-returns-12
+unfolding units
+returns-12 c = (sym (ap units (c .enum-told11 .given .1)), omega arith)
+
+returns-13 : tie.Need-returns-13
+unfolding units
+returns-13 c = (sym (ap units (c .enum-told12 .given .1)), omega arith)
+
 pub units-of-spec : {M : Type 1} → statement M
 units-of-spec =
     tie.close
@@ -103,6 +117,8 @@ units-of-spec =
     enum-known-instruction
     wide-requires
     enum-told-10
+    enum-told-11
+    enum-told-12
     returns
     returns-2
     returns-3
@@ -113,4 +129,6 @@ units-of-spec =
     returns-8
     returns-9
     returns-10
-    returns-11)
+    returns-11
+    returns-12
+    returns-13)

@@ -11,7 +11,7 @@ use lib.Seq.{getD-take}
 use lib.Dec.{ltb}
 use borrow.Author.Tests.{eq-eqb, ne-eqb}
 use Rattle.tasklist.specs.declared.Instruction.{Instruction}
-use Rattle.tasklist.specs.declared.Instruction.the-variants.{Const, Add, Sub, Less, Load, Store, Skip, Spawn, Wait, Fan, Sum}
+use Rattle.tasklist.specs.declared.Instruction.the-variants.{Const, Add, Sub, Less, Load, Store, Skip, Spawn, Wait, Fan, Sum, Mul, Div}
 use Rattle.tasklist.specs.TaskList.{footprint-of, instruction-of}
 use Rattle.tasklist.specs.Encode.{instruction-fields}
 use Rattle.tasklist.specs.Tables.{list-of}
@@ -20,7 +20,7 @@ use Rattle.semantics.specs.Run.{Task, weight-of, mode-of, register, task-of}
 use Rattle.semantics.specs.Run as Semantics
 use Rattle.semantics.specs.Access.{Access, every, access-fault}
 use Rattle.semantics.specs.Effect.{Effect, Plan, go, own, faulted, assigned, passes, storing, adding}
-use Rattle.semantics.specs.Plan.{step, wrap, unless-fault, plan-load, plan-store, plan-wait, plan-sum, passed-over, plan-make, plan-instruction, units, step-weight, at-end, plan-step, plan}
+use Rattle.semantics.specs.Plan.{step, wrap, unless-fault, plan-load, plan-store, plan-wait, plan-sum, passed-over, plan-make, plan-quotient, plan-instruction, units, step-weight, at-end, plan-step, plan}
 use Rattle.semantics.specs.Footprint.{children, first-register}
 use Rattle.semantics.specs.Call.{refuse, accept, admit, settle}
 use Rattle.semantics.specs.Sound.{In}
@@ -31,6 +31,9 @@ use Rattle.ahead.specs.Ahead.{access, accesses-of, hold-ahead}
 use Rattle.ahead.specs.declared.Hold.{Hold}
 use Rattle.ahead.specs.declared.Wanted.{Wanted}
 use Rattle.tables.specs.Children.{seen-from}
+use Rattle.records.specs.declared.Quotient.{Quotient}
+use Rattle.records.specs.declared.Quotient.the-variants as Came
+use Rattle.records.specs.Quotients.{QuotientIs}
 use Rattle.arrays.proofs.RowLaws.{row-past}
 use Rattle.tables.proofs.ChildLaws.{seen-alone, seen-fan}
 use Rattle.ahead.proofs.SearchLaws.{outcome-by}
@@ -40,7 +43,7 @@ use Rattle.plans.specs.declared.StepPlan.{StepPlan}
 use Rattle.plans.specs.declared.StepPlan.the-variants as Planned
 use Rattle.plans.specs.View.{Parts, model, context-of, SoundRun, Placed, record-of}
 use Rattle.plans.specs.Calls.{decided}
-use Rattle.plans.specs.Steps.{fault-at, AccessAs, planned, settled, Plans, PlansFree, FreeAs, WaitAs}
+use Rattle.plans.specs.Steps.{fault-at, AccessAs, planned, quotient-plan, settled, Plans, PlansFree, FreeAs, WaitAs}
 use Rattle.plans.proofs.ViewLaws.{mode-is}
 use Rattle.plans.proofs.DecideLaws.{by-plan, own-task, looks-ahead, own-state}
 
@@ -272,6 +275,16 @@ module _ (run : Parts) (n place : ℕ) (below : n < 128) where
           ∙ h s p .1 (asks-some s a 3 asked mode (h s p .0)) _
           ∙ ap (λ z. accept (adding w a z (task-of (model run) n))) (named s source v q)
 
+-- request 108: a quotient for a register, as its plan
+quotient-planned :
+    (run : Parts) (n w a x d : ℕ) (found : Quotient) → QuotientIs x d found
+    → settle (model run) n (plan-quotient w (task-of (model run) n) a x d) ≡ planned run n w (quotient-plan a found)
+unfolding plan-quotient quotient-plan planned settle admit every
+quotient-planned run n w a x d (Came.Fault k) h = settle-fault (model run) n w (task-of (model run) n) _ _ k (h .1) (h .0)
+quotient-planned run n w a x d (Came.Value v) h =
+    let t = task-of (model run) n in
+    settle-none (model run) n w t _ _ (h .0) ∙ ap (λ z. accept (own w (assigned a z t))) (h .1)
+
 -- Those that never wait.
 module _ (rs : List ℕ) where
   both :
@@ -310,6 +323,24 @@ module _ (rs : List ℕ) where
         λ run n w h.
         let t = task-of (model run) n in
         assigns run n w a (cond (ltb (register t x) (register t y)) 1 0) u (both (λ i j. cond (ltb i j) 1 0) x y l r u t h p q e)
+
+  module _ (a x y l r : ℕ) (p : l ≡ getD rs x 0) (q : r ≡ getD rs y 0) (found : Quotient) where
+    pub mul-free : QuotientIs (l * r) 1000 found → PlansFree rs (Mul a x y) (quotient-plan a found)
+    unfolding settled plan-instruction
+    mul-free is =
+        λ run n w h.
+        let t = task-of (model run) n in
+        ap (λ z. settle (model run) n (plan-quotient w t a z 1000)) (both (λ i j. i * j) x y l r (l * r) t h p q refl)
+        ∙ quotient-planned run n w a (l * r) 1000 found is
+
+    pub div-free : QuotientIs (1000 * l) r found → PlansFree rs (Div a x y) (quotient-plan a found)
+    unfolding settled plan-instruction
+    div-free is =
+        λ run n w h.
+        let t = task-of (model run) n in
+        ap (λ z. settle (model run) n (plan-quotient w t a z (register t y))) (both (λ i j. 1000 * i) x y l r (1000 * l) t h p q refl)
+        ∙ ap (λ z. settle (model run) n (plan-quotient w t a (1000 * l) z)) (both (λ i j. j) x y l r r t h p q refl)
+        ∙ quotient-planned run n w a (1000 * l) r found is
 
   pub skip-free : (a b l u : ℕ) → l ≡ getD rs a 0 → u ≡ passed-over l b → PlansFree rs (Skip a b) (Planned.Pass u)
   unfolding settled plan-instruction settle admit every planned
@@ -350,6 +381,8 @@ free-code rs (Spawn s x) p code q f g h o r = r
 free-code rs (Wait a) p code q f g h o r = absurd (h q)
 free-code rs (Fan s x k) p code q f g h o r = r
 free-code rs (Sum a x) p code q f g h o r = absurd (o q)
+free-code rs (Mul a x y) p code q f g h o r = r
+free-code rs (Div a x y) p code q f g h o r = r
 
 pub free-plans :
     (run : Parts) (n place : ℕ) (i : Instruction) (p : StepPlan) → n < 128 → PlansFree (record-of run n .registers) i p
@@ -358,19 +391,21 @@ free-plans run n place i p below h = λ s q w. h run n w (ap (λ t. t .registers
 
 pub waiting-code :
     (run : Parts) (n place : ℕ) (i : Instruction) (p : StepPlan) (code : ℕ) → code ≡ getD (instruction-fields i) 0 0 → 4 ≤ code
-    → code ≢ 6 → code ≢ 7 → code ≢ 9 → WaitAs run n place i p → Plans run n place i p
+    → code ≢ 6 → code ≢ 7 → code ≢ 9 → code ≢ 11 → code ≢ 12 → WaitAs run n place i p → Plans run n place i p
 unfolding instruction-fields
-waiting-code run n place (Const a v) p code q f g h o r = let z : ⊥ = omega arith in absurd z
-waiting-code run n place (Add a x y) p code q f g h o r = let z : ⊥ = omega arith in absurd z
-waiting-code run n place (Sub a x y) p code q f g h o r = let z : ⊥ = omega arith in absurd z
-waiting-code run n place (Less a x y) p code q f g h o r = let z : ⊥ = omega arith in absurd z
-waiting-code run n place (Load a x) p code q f g h o r = r
-waiting-code run n place (Store a x) p code q f g h o r = r
-waiting-code run n place (Skip a b) p code q f g h o r = absurd (g q)
-waiting-code run n place (Spawn s x) p code q f g h o r = absurd (h q)
-waiting-code run n place (Wait a) p code q f g h o r = r
-waiting-code run n place (Fan s x k) p code q f g h o r = absurd (o q)
-waiting-code run n place (Sum a x) p code q f g h o r = r
+waiting-code run n place (Const a v) p code q f g h o m d r = let z : ⊥ = omega arith in absurd z
+waiting-code run n place (Add a x y) p code q f g h o m d r = let z : ⊥ = omega arith in absurd z
+waiting-code run n place (Sub a x y) p code q f g h o m d r = let z : ⊥ = omega arith in absurd z
+waiting-code run n place (Less a x y) p code q f g h o m d r = let z : ⊥ = omega arith in absurd z
+waiting-code run n place (Load a x) p code q f g h o m d r = r
+waiting-code run n place (Store a x) p code q f g h o m d r = r
+waiting-code run n place (Skip a b) p code q f g h o m d r = absurd (g q)
+waiting-code run n place (Spawn s x) p code q f g h o m d r = absurd (h q)
+waiting-code run n place (Wait a) p code q f g h o m d r = r
+waiting-code run n place (Fan s x k) p code q f g h o m d r = absurd (o q)
+waiting-code run n place (Sum a x) p code q f g h o m d r = r
+waiting-code run n place (Mul a x y) p code q f g h o m d r = absurd (m q)
+waiting-code run n place (Div a x y) p code q f g h o m d r = absurd (d q)
 
 -- What is decided of a step.
 module _ (run : Parts) (n : ℕ) (below : n < 128) (s : SoundRun run) (place : ℕ) (p : Placed run n place) where

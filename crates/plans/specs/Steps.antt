@@ -4,7 +4,7 @@ use mathlib.Core.Path.{_≡_}
 use mathlib.Core.List.{List, [], _∷_}
 use mathlib.Core.Logic.{_≢_}
 use Rattle.tasklist.specs.declared.Instruction.{Instruction}
-use Rattle.tasklist.specs.declared.Instruction.the-variants.{Const, Add, Sub, Less, Load, Store, Skip, Spawn, Wait, Fan, Sum}
+use Rattle.tasklist.specs.declared.Instruction.the-variants.{Const, Add, Sub, Less, Load, Store, Skip, Spawn, Wait, Fan, Sum, Mul, Div}
 use Rattle.tasklist.specs.TaskList.{footprint-of}
 use Rattle.tasklist.specs.Tables.{list-of}
 use Rattle.semantics.specs.Run.{mode-of, task-of}
@@ -16,6 +16,8 @@ use Rattle.semantics.specs.Call.{Outcome, refuse, accept, admit, settle}
 use Rattle.semantics.specs.Answers.{refusal-number}
 use Rattle.ahead.specs.Ahead.{access}
 use Rattle.tables.specs.Children.{seen-from}
+use Rattle.records.specs.declared.Quotient.{Quotient}
+use Rattle.records.specs.declared.Quotient.the-variants as Came
 use Rattle.plans.specs.declared.Access.{Access}
 use Rattle.plans.specs.declared.Access.the-variants as Found
 use Rattle.plans.specs.declared.StepPlan.{StepPlan}
@@ -71,6 +73,11 @@ planned run n w (Planned.Make s f first k) =
     (plan-make (context-of run) w n t s
     (children s (footprint-of (list-of (run .tables)) f) (seen-from 0 k (first-register first t))))
 
+-- request 108: what a quotient for register a comes to
+unfoldable pub quotient-plan : ℕ → Quotient → StepPlan
+quotient-plan a (Came.Fault k) = Planned.Fault k
+quotient-plan a (Came.Value v) = Planned.Assign a v
+
 -- what an instruction of task n comes to
 unfoldable pub settled : Parts → ℕ → ℕ → Instruction → Outcome
 settled run n w i = settle (model run) n (plan-instruction (context-of run) w n (task-of (model run) n) i)
@@ -102,6 +109,8 @@ FreeAs rs (Spawn s f) p = PlansFree rs (Spawn s f) p
 FreeAs rs (Wait a) p = Unit {0}
 FreeAs rs (Fan s f k) p = PlansFree rs (Fan s f k) p
 FreeAs rs (Sum a x) p = Unit {0}
+FreeAs rs (Mul a x y) p = PlansFree rs (Mul a x y) p
+FreeAs rs (Div a x y) p = PlansFree rs (Div a x y) p
 
 -- of those that may wait
 abbrev pub WaitAs : Parts → ℕ → ℕ → Instruction → StepPlan → Type 0
@@ -116,6 +125,8 @@ WaitAs run n place (Spawn s f) p = Unit {0}
 WaitAs run n place (Wait a) p = Plans run n place (Wait a) p
 WaitAs run n place (Fan s f k) p = Unit {0}
 WaitAs run n place (Sum a x) p = Plans run n place (Sum a x) p
+WaitAs run n place (Mul a x y) p = Unit {0}
+WaitAs run n place (Div a x y) p = Unit {0}
 
 abbrev pub WaitIn : List ℕ → List ℕ → List ℕ → List ℕ → ℕ → ℕ → Instruction → StepPlan → Type 0
 WaitIn order modes memory registers n place i p =

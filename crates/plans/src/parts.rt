@@ -8,14 +8,17 @@ ghost use lib.Dec.{ltb};
 ghost use Rattle.tasklist.specs.declared.Instruction.the-variants.{Load, Store, Wait, Sum};
 ghost use Rattle.tasklist.specs.Encode.{instruction-fields};
 ghost use Rattle.semantics.specs.Plan.{passed-over, units};
-ghost use Rattle.plans.specs.Steps.{AccessIn, PlansIn, FreeAs, WaitIn};
+ghost use Rattle.plans.specs.Steps.{AccessIn, PlansIn, FreeAs, WaitIn, quotient-plan};
 use crate::Access;
 use crate::StepPlan;
 use ahead::Hold;
+use records::Quotient;
 use records::constant;
 use records::difference;
 use records::less;
 use records::passed_over;
+use records::product;
+use records::ratio;
 use records::value_at;
 use semantics::CallRefusal;
 use tasklist::Instruction;
@@ -151,7 +154,17 @@ fn sum_plan<'a>(
     }
 }
 
-// "Const, add, sub, less, skip and spawn never wait.", nor does a fan. The others are not asked of here.
+// Request 108: a quotient's value into a register, or its fault.
+fn quotient_plan(target: u8, found: Quotient) -> StepPlan
+    ensures { λ r. ⌜ r ≡ quotient-plan target found ⌝ }
+{
+    match found {
+        Quotient::Fault { fault } => StepPlan::Fault { fault },
+        Quotient::Value { value } => StepPlan::Assign { target, value },
+    }
+}
+
+// "Const, add, sub, less, skip and spawn never wait.", nor do a fan and the quotients. The others are not asked of here.
 fn free_plan(registers: [u32; 4], instruction: Instruction) -> StepPlan
     ensures { λ r. ⌜ FreeAs registers instruction r ⌝ }
 {
@@ -221,6 +234,24 @@ fn free_plan(registers: [u32; 4], instruction: Instruction) -> StepPlan
             first: 0,
             children,
         },
+        Instruction::Mul {
+            target,
+            left,
+            right,
+        } => {
+            let a = grants::register_at(registers, left);
+            let b = grants::register_at(registers, right);
+            quotient_plan(target, product(a, b))
+        }
+        Instruction::Div {
+            target,
+            left,
+            right,
+        } => {
+            let a = grants::register_at(registers, left);
+            let b = grants::register_at(registers, right);
+            quotient_plan(target, ratio(a, b))
+        }
         Instruction::Load {
             target: _,
             place: _,
@@ -291,10 +322,20 @@ fn waiting_plan<'a>(
             footprint: _,
             children: _,
         } => StepPlan::Pass { over: 0 },
+        Instruction::Mul {
+            target: _,
+            left: _,
+            right: _,
+        } => StepPlan::Pass { over: 0 },
+        Instruction::Div {
+            target: _,
+            left: _,
+            right: _,
+        } => StepPlan::Pass { over: 0 },
     }
 }
 
-// What an instruction comes to: by its code, those that never wait together, then by its case.
+// What an instruction comes to: by its code, those that may wait together, then by its case.
 pub fn plan_of<'a>(
     order: &'a [u8; 128],
     modes: &'a [u8; 8192],
@@ -309,7 +350,7 @@ pub fn plan_of<'a>(
     ensures { λ r. ⌜ PlansIn (now (order .entry)) (now (modes .entry)) memory registers task place instruction r ⌝ }
 {
     match code {
-        0 | 1 | 2 | 3 | 6 | 7 | 9 => free_plan(registers, instruction),
-        _ => waiting_plan(order, modes, memory, registers, task, place, instruction),
+        4 | 5 | 8 | 10 => waiting_plan(order, modes, memory, registers, task, place, instruction),
+        _ => free_plan(registers, instruction),
     }
 }

@@ -1,8 +1,8 @@
 -- A law for each of those that never wait; of the others nothing is said.
 -- Assumes nothing.
 use mathlib.Core.Path.{sym, ap, subst}
-use Rattle.plans.specs.Steps.{FreeAs}
-use Rattle.plans.proofs.StepLaws.{const-free, add-free, sub-free, less-free, skip-free, spawn-free, fan-free}
+use Rattle.plans.specs.Steps.{FreeAs, PlansFree, quotient-plan}
+use Rattle.plans.proofs.StepLaws.{const-free, add-free, sub-free, less-free, skip-free, spawn-free, fan-free, mul-free, div-free}
 use Rattle.plans.specs.declared.StepPlan.the-variants.{Assign, Pass, Make}
 use borrow.Author.Needs.{needs}
 use Rattle.plans.proofs.parts.free_plan.Statement.{statement}
@@ -15,6 +15,9 @@ use Rattle.records.proofs.less.Reads as less-reads
 use Rattle.records.proofs.passed_over.Reads as passed-over-reads
 use Rattle.std.proofs.num.wrapping_add_u32.Reads as wrapping-add-u32-reads
 use Rattle.grants.proofs.register_at.Reads as register-at-reads
+use Rattle.records.proofs.product.Reads as product-reads
+use Rattle.records.proofs.ratio.Reads as ratio-reads
+use Rattle.plans.proofs.parts.quotient_plan.Reads as quotient-plan-reads
 
 enum-known-instruction : tie.Need-enum-known-instruction
 enum-known-instruction c = search needs
@@ -76,6 +79,36 @@ register-at-requires-8 c κs = search needs
 enum-known-instruction-7 : tie.Need-enum-known-instruction-7
 enum-known-instruction-7 c = search needs
 
+enum-known-instruction-8 : tie.Need-enum-known-instruction-8
+enum-known-instruction-8 c = search needs
+
+register-at-requires-9 : tie.Need-register-at-requires-9
+register-at-requires-9 c κs = search needs
+
+register-at-requires-10 : tie.Need-register-at-requires-10
+register-at-requires-10 c κs = search needs
+
+product-requires : tie.Need-product-requires
+product-requires c κs = search needs
+
+quotient-plan-requires : tie.Need-quotient-plan-requires
+quotient-plan-requires c κs = search needs
+
+enum-known-instruction-9 : tie.Need-enum-known-instruction-9
+enum-known-instruction-9 c = search needs
+
+register-at-requires-11 : tie.Need-register-at-requires-11
+register-at-requires-11 c κs = search needs
+
+register-at-requires-12 : tie.Need-register-at-requires-12
+register-at-requires-12 c κs = search needs
+
+ratio-requires : tie.Need-ratio-requires
+ratio-requires c κs = search needs
+
+quotient-plan-requires-2 : tie.Need-quotient-plan-requires-2
+quotient-plan-requires-2 c κs = search needs
+
 enum-told : tie.Need-enum-told
 enum-told c = search needs
 
@@ -123,18 +156,36 @@ returns-7 c =
 
 returns-8 : tie.Need-returns-8
 returns-8 c =
-    subst (λ i. FreeAs (c .before .before .args .registers) i (Pass 0)) (sym (c .enum-told .given .1)) tt
+    let i = c .before .before .before .before .before .instruction8 .given in
+    let rs = c .before .before .before .before .before .before .before .args .registers in
+    subst (FreeAs rs (c .before .before .before .before .before .before .before .args .instruction)) (sym (c .quotient-plan .ensures))
+    (subst (λ x. FreeAs rs x (quotient-plan (i .0 .0) (c .before .product .result))) (sym (i .1))
+    (mul-free rs (i .0 .0) (i .0 .1 .0) (i .0 .1 .1 .0) (c .before .before .before .register-at9 .result) (c .before .before .register-at10 .result)
+    (c .before .before .before .register-at9 .ensures) (c .before .before .register-at10 .ensures) (c .before .product .result) (c .before .product .ensures)))
 
 returns-9 : tie.Need-returns-9
 returns-9 c =
-    subst (λ i. FreeAs (c .before .before .args .registers) i (Pass 0)) (sym (c .enum-told2 .given .1)) tt
+    let i = c .before .before .before .before .before .instruction9 .given in
+    let rs = c .before .before .before .before .before .before .before .args .registers in
+    subst (FreeAs rs (c .before .before .before .before .before .before .before .args .instruction)) (sym (c .quotient-plan2 .ensures))
+    (subst (λ x. FreeAs rs x (quotient-plan (i .0 .0) (c .before .ratio .result))) (sym (i .1))
+    (div-free rs (i .0 .0) (i .0 .1 .0) (i .0 .1 .1 .0) (c .before .before .before .register-at11 .result) (c .before .before .register-at12 .result)
+    (c .before .before .before .register-at11 .ensures) (c .before .before .register-at12 .ensures) (c .before .ratio .result) (c .before .ratio .ensures)))
 
 returns-10 : tie.Need-returns-10
 returns-10 c =
-    subst (λ i. FreeAs (c .before .before .args .registers) i (Pass 0)) (sym (c .enum-told3 .given .1)) tt
+    subst (λ i. FreeAs (c .before .before .args .registers) i (Pass 0)) (sym (c .enum-told .given .1)) tt
 
 returns-11 : tie.Need-returns-11
 returns-11 c =
+    subst (λ i. FreeAs (c .before .before .args .registers) i (Pass 0)) (sym (c .enum-told2 .given .1)) tt
+
+returns-12 : tie.Need-returns-12
+returns-12 c =
+    subst (λ i. FreeAs (c .before .before .args .registers) i (Pass 0)) (sym (c .enum-told3 .given .1)) tt
+
+returns-13 : tie.Need-returns-13
+returns-13 c =
     subst (λ i. FreeAs (c .before .before .args .registers) i (Pass 0)) (sym (c .enum-told4 .given .1)) tt
 
 pub free-plan-spec : {M : Type 1} → statement M
@@ -161,6 +212,16 @@ free-plan-spec =
     enum-known-instruction-6
     register-at-requires-8
     enum-known-instruction-7
+    enum-known-instruction-8
+    register-at-requires-9
+    register-at-requires-10
+    product-requires
+    quotient-plan-requires
+    enum-known-instruction-9
+    register-at-requires-11
+    register-at-requires-12
+    ratio-requires
+    quotient-plan-requires-2
     enum-told
     enum-told-2
     enum-told-3
@@ -175,4 +236,6 @@ free-plan-spec =
     returns-8
     returns-9
     returns-10
-    returns-11)
+    returns-11
+    returns-12
+    returns-13)

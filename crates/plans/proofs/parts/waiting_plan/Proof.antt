@@ -59,6 +59,12 @@ enum-told-6 c = search needs
 enum-told-7 : tie.Need-enum-told-7
 enum-told-7 c = search needs
 
+enum-told-8 : tie.Need-enum-told-8
+enum-told-8 c = search needs
+
+enum-told-9 : tie.Need-enum-told-9
+enum-told-9 c = search needs
+
 returns : tie.Need-returns
 returns c =
     let a = c .before .before .before .before .args in
@@ -129,6 +135,18 @@ returns-11 c =
     λ run m e.
     subst (λ i. WaitAs (looking (now (a .order)) (now (a .modes)) run) (a .task) (a .place) i (Pass 0)) (sym (c .enum-told7 .given .1)) tt
 
+returns-12 : tie.Need-returns-12
+returns-12 c =
+    let a = c .before .before .args in
+    λ run m e.
+    subst (λ i. WaitAs (looking (now (a .order)) (now (a .modes)) run) (a .task) (a .place) i (Pass 0)) (sym (c .enum-told8 .given .1)) tt
+
+returns-13 : tie.Need-returns-13
+returns-13 c =
+    let a = c .before .before .args in
+    λ run m e.
+    subst (λ i. WaitAs (looking (now (a .order)) (now (a .modes)) run) (a .task) (a .place) i (Pass 0)) (sym (c .enum-told9 .given .1)) tt
+
 pub waiting-plan-spec : {M : Type 1} → statement M
 waiting-plan-spec =
     tie.close
@@ -148,6 +166,8 @@ waiting-plan-spec =
     enum-told-5
     enum-told-6
     enum-told-7
+    enum-told-8
+    enum-told-9
     returns
     returns-2
     returns-3
@@ -158,4 +178,6 @@ waiting-plan-spec =
     returns-8
     returns-9
     returns-10
-    returns-11)
+    returns-11
+    returns-12
+    returns-13)

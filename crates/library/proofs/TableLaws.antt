@@ -26,31 +26,31 @@ pairs-at (a ∷ b ∷ rest) (suc i) h =
     λ k m e. ap (λ x. getD (a ∷ b ∷ rest) x 0) e in
     cc (pairs-at rest i (omega arith), behind (2 * suc i) (2 * i) (omega arith), behind (2 * suc i + 1) (2 * i + 1) (omega arith))
 
--- "wrong length": 26 bytes are a table of 13 numbers, and other bytes are none
+-- "wrong length": 30 bytes are a table of 15 numbers, and other bytes are none
 module _ (bytes : List ℕ) where
-  pub table-none : (length bytes ≡ 26 → ⊥) → table-of bytes ≡ []
+  pub table-none : (length bytes ≡ 30 → ⊥) → table-of bytes ≡ []
   unfolding table-of
-  table-none h = rw (ne-eqb (length bytes) 26 h) refl
+  table-none h = rw (ne-eqb (length bytes) 30 h) refl
 
-  pub table-whole : length bytes ≡ 26 → table-of bytes ≡ pairs-of bytes
+  pub table-whole : length bytes ≡ 30 → table-of bytes ≡ pairs-of bytes
   unfolding table-of
-  table-whole h = rw (eq-eqb (length bytes) 26 h) refl
+  table-whole h = rw (eq-eqb (length bytes) 30 h) refl
 
-  pub table-length : length bytes ≡ 26 → length (pairs-of bytes) ≡ 13
+  pub table-length : length bytes ≡ 30 → length (pairs-of bytes) ≡ 15
   table-length h = omega (arith, pairs-length bytes)
 
 -- what read_table hands back
-module _ (bytes values : List ℕ) (whole : length values ≡ 13) where
-  pub read-none : (length bytes ≡ 26 → ⊥) → ReadTable bytes (record { values = values; count = 0 })
+module _ (bytes values : List ℕ) (whole : length values ≡ 15) where
+  pub read-none : (length bytes ≡ 30 → ⊥) → ReadTable bytes (record { values = values; count = 0 })
   read-none h = record { whole = whole; count = zero-le; values = sym (table-none bytes h) }
 
   pub read-all :
-      length bytes ≡ 26 → take 13 values ≡ take 13 (pairs-of bytes) → ReadTable bytes (record { values = values; count = 13 })
+      length bytes ≡ 30 → take 15 values ≡ take 15 (pairs-of bytes) → ReadTable bytes (record { values = values; count = 15 })
   read-all h e =
       record {
         whole = whole;
         count = omega arith;
-        values = e ∙ take-all 13 (pairs-of bytes) (omega (arith, table-length bytes h)) ∙ sym (table-whole bytes h);
+        values = e ∙ take-all 15 (pairs-of bytes) (omega (arith, table-length bytes h)) ∙ sym (table-whole bytes h);
       }
 
 -- one number more is read

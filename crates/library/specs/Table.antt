@@ -16,12 +16,12 @@ pairs-of [] = []
 pairs-of (a ∷ []) = []
 pairs-of (a ∷ b ∷ rest) = pair-of a b ∷ pairs-of rest
 
--- "21 wrong length": other than 2 × 13 bytes are no table
+-- "21 wrong length": other than 2 × 15 bytes are no table
 unfoldable pub table-of : List ℕ → List ℕ
-table-of bytes = cond (eqb (length bytes) 26) (pairs-of bytes) []
+table-of bytes = cond (eqb (length bytes) 30) (pairs-of bytes) []
 
 -- the first `count` values are the table's numbers
 pub record ReadTable (bytes : List ℕ) (r : Table) : Type 0 where
-  pub whole : length (r .values) ≡ 13
-  pub count : r .count ≤ 13
+  pub whole : length (r .values) ≡ 15
+  pub count : r .count ≤ 15
   pub values : take (r .count) (r .values) ≡ table-of bytes

@@ -15,7 +15,7 @@ pub struct Numbers {
 
 // A table of weights (request 105): the first `count` values, all or none.
 pub struct Table {
-    pub values: [u16; 13],
+    pub values: [u16; 15],
     pub count: usize,
 }
 
@@ -116,18 +116,18 @@ fn pair_at(bytes: &[u8], at: usize) -> u16
     short(bytes[at]) + 256 * short(bytes[at + 1])
 }
 
-// The numbers of a table. None where there are other than 26 bytes: they are no table.
+// The numbers of a table. None where there are other than 30 bytes: they are no table.
 pub fn read_table(bytes: &[u8]) -> Table
     ensures { λ r. ⌜ ReadTable (now (bytes .entry)) r ⌝ }
 {
-    let mut values = [0u16; 13];
-    if bytes.len() != 26 {
+    let mut values = [0u16; 15];
+    if bytes.len() != 30 {
         return Table { values, count: 0 };
     }
     let mut i = 0;
-    while i < 13 {
+    while i < 15 {
         values[i] = pair_at(bytes, 2 * i);
         i += 1;
     }
-    Table { values, count: 13 }
+    Table { values, count: 15 }
 }

@@ -13,16 +13,16 @@ use Rattle.library.proofs.read_table.Tie as tie
 
 abbrev Inv-loop : tie.InvT-loop
 Inv-loop bytes values₀ i₀ values i =
-    (length bytes ≡ 26) × (i ≤ 13) × (length values ≡ 13) × (take i values ≡ take i (pairs-of bytes))
+    (length bytes ≡ 30) × (i ≤ 15) × (length values ≡ 15) × (take i values ≡ take i (pairs-of bytes))
 
 abbrev μ-loop : tie.MeasureT-loop
-μ-loop bytes values₀ i₀ values i = 13 - i
+μ-loop bytes values₀ i₀ values i = 15 - i
 
 returns : tie.Need-returns Inv-loop μ-loop
-returns c = read-none (now (c .before .before .args .bytes)) _ (length-replicate {A = ℕ} 13 0) (c .if1 .taken)
+returns c = read-none (now (c .before .before .args .bytes)) _ (length-replicate {A = ℕ} 15 0) (c .if1 .taken)
 
 loop-holds : tie.Need-loop-holds Inv-loop μ-loop
-loop-holds c = (search needs, search needs, length-replicate {A = ℕ} 13 0, refl)
+loop-holds c = (search needs, search needs, length-replicate {A = ℕ} 15 0, refl)
 
 mul-pair-at : tie.Need-mul-pair-at Inv-loop μ-loop
 mul-pair-at c = search needs
@@ -57,7 +57,7 @@ returns-2 : tie.Need-returns-2 Inv-loop μ-loop
 returns-2 c =
     let bytes = now (c .before .before .before .before .args .bytes) in
     let loop = c .before .loop in
-    let done : loop .i ≡ 13 = omega (arith, c .loop-test .left, loop .inv .1) in
+    let done : loop .i ≡ 15 = omega (arith, c .loop-test .left, loop .inv .1) in
     read-all bytes (loop .values) (loop .inv .2) (loop .inv .0)
     (ap (λ k. take k (loop .values)) (sym done) ∙ loop .inv .3 ∙ ap (λ k. take k (pairs-of bytes)) done)
 

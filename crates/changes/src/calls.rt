@@ -26,7 +26,7 @@ pub fn start_change<'a>(
     left: usize,
     own: Record,
     task: u32,
-    weights: [u16; 13],
+    weights: [u16; 15],
 ) -> Change
     ensures { λ r. ⌜ StartedBy (now (order .entry)) (now (modes .entry)) left own task weights r ⌝ }
 {
@@ -47,7 +47,7 @@ pub fn end_change(
     own: Record,
     size: usize,
     task: u32,
-    weights: [u16; 13],
+    weights: [u16; 15],
 ) -> Change
     ensures { λ r. ⌜ EndedBy (now (order .entry)) (now (order .exit)) left own size task weights r ⌝ }
 {

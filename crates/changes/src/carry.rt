@@ -15,8 +15,8 @@ fn wide(x: u16) -> u32
 }
 
 // A number of the table of weights: start, end, then the codes.
-pub fn weight_at(weights: [u16; 13], place: usize) -> u32
-    requires { ⌜ place < 13 ⌝ }
+pub fn weight_at(weights: [u16; 15], place: usize) -> u32
+    requires { ⌜ place < 15 ⌝ }
     ensures { λ r. ⌜ (r ≡ getD weights place 0) × (r < 65536) ⌝ }
 {
     wide(weights[place])

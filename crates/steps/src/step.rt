@@ -28,7 +28,7 @@ pub fn step_change(
     left: usize,
     own: Record,
     task: u32,
-    weights: [u16; 13],
+    weights: [u16; 15],
 ) -> Change
     ensures { λ r. ⌜ SteppedBy tables (now (memory .entry)) (now (modes .entry)) (now (order .entry)) (now (memory .exit)) (now (modes .exit)) (now (order .exit)) left own task weights r ⌝ }
 {

@@ -46,5 +46,5 @@ blank-run =
       left = 0;
       calls = 0;
       weight = 0;
-      weights = replicate 13 0;
+      weights = replicate 15 0;
     }

@@ -19,7 +19,7 @@ pub struct Run {
     pub calls: u32,
     pub weight: u32,
     // the table of weights that it was opened with (request 105): start, end, then the codes
-    pub weights: [u16; 13],
+    pub weights: [u16; 15],
 }
 
 // What start, step and end hand back: the answer, and the run after the call, the very same one where it is refused.

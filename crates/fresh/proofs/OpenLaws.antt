@@ -89,18 +89,18 @@ module _ (bytes : List ℕ) (t : Tables) (l : Listed bytes t) where
 
 -- "21 wrong length, 22 a number not in 1 to 1000"
 module _ {A : Type 0} (weights : List ℕ) (a : A) where
-  table-short : (length weights ≡ 13 → ⊥) → with-weights weights a ≡ denies 21
+  table-short : (length weights ≡ 15 → ⊥) → with-weights weights a ≡ denies 21
   unfolding with-weights weight-places
-  table-short h = rw (ne-eqb (length weights) 13 h) refl
+  table-short h = rw (ne-eqb (length weights) 15 h) refl
 
-  module _ (whole : length weights ≡ 13) where
+  module _ (whole : length weights ≡ 15) where
     table-bad : every is-weight weights ≡ false → with-weights weights a ≡ denies 22
     unfolding with-weights weight-places
-    table-bad h = rw (eq-eqb (length weights) 13 whole, h) refl
+    table-bad h = rw (eq-eqb (length weights) 15 whole, h) refl
 
     table-good : every is-weight weights ≡ true → with-weights weights a ≡ Operations.gives a
     unfolding with-weights weight-places
-    table-good h = rw (eq-eqb (length weights) 13 whole, h) refl
+    table-good h = rw (eq-eqb (length weights) 15 whole, h) refl
 
 -- one number of the table is tested
 pub every-more :
@@ -264,11 +264,11 @@ module _ (bytes numbers weights : List ℕ) (reading : Reading) (read : ReadAs (
       asked = open-fit bytes (reading .tables) read-list numbers weights fits
 
       pub answers-table :
-          (length weights ≡ 13 → ⊥) → (r : Opened) → (r .answer ≡ Opening.Table) × (r .run ≡ blank-run) → Answers r
+          (length weights ≡ 15 → ⊥) → (r : Opened) → (r .answer ≡ Opening.Table) × (r .run ≡ blank-run) → Answers r
       answers-table u r h =
           denied 21 Opening.Table (unfold open-number in refl) (asked ∙ table-short weights fresh u) r h
 
-      module _ (whole : length weights ≡ 13) (b : Bool) (tested : b ≡ every is-weight weights) where
+      module _ (whole : length weights ≡ 15) (b : Bool) (tested : b ≡ every is-weight weights) where
         pub answers-weight : b ≡ false → (r : Opened) → (r .answer ≡ Opening.Weight) × (r .run ≡ blank-run) → Answers r
         answers-weight q r h =
             denied 22 Opening.Weight (unfold open-number in refl) (asked ∙ table-bad weights fresh whole (sym tested ∙ q)) r h

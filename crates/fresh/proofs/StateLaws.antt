@@ -45,7 +45,7 @@ pub blank-made :
       left = 0;
       calls = 0;
       weight = 0;
-      weights = replicate 13 0;
+      weights = replicate 15 0;
     }) blank-run
 unfolding blank-run
 blank-made t z e f =
@@ -58,7 +58,7 @@ blank-made t z e f =
       left = 0;
       calls = 0;
       weight = 0;
-      weights = replicate 13 0;
+      weights = replicate 15 0;
     }) e
     ∙ ap (λ (x : Record). record {
       tables = blank-tables;
@@ -69,5 +69,5 @@ blank-made t z e f =
       left = 0;
       calls = 0;
       weight = 0;
-      weights = replicate 13 0;
+      weights = replicate 15 0;
     }) f

@@ -21,10 +21,10 @@ fn refusal(answer: OpenAnswer) -> Opened
 }
 
 // The weights that hold where no others are asked for.
-pub fn todays_weights() -> [u16; 13]
+pub fn todays_weights() -> [u16; 15]
     ensures { λ r. ⌜ r ≡ fixed-weights ⌝ }
 {
-    [5, 2, 1, 1, 1, 1, 3, 4, 1, 8, 1, 8, 4]
+    [5, 2, 1, 1, 1, 1, 3, 4, 1, 8, 1, 8, 4, 1, 1]
 }
 
 fn is_weight(number: u16) -> bool
@@ -48,13 +48,13 @@ fn all_weights(numbers: &[u16]) -> bool
 }
 
 // The table of a run.
-fn table_of(numbers: &[u16]) -> [u16; 13]
-    requires { ⌜ length (now numbers) ≡ 13 ⌝ }
+fn table_of(numbers: &[u16]) -> [u16; 15]
+    requires { ⌜ length (now numbers) ≡ 15 ⌝ }
     ensures { λ r. ⌜ r ≡ now (numbers .entry) ⌝ }
 {
-    let mut table = [0u16; 13];
+    let mut table = [0u16; 15];
     let mut i = 0;
-    while i < 13 {
+    while i < 15 {
         table[i] = numbers[i];
         i += 1;
     }
@@ -76,7 +76,7 @@ pub fn open(list: &[u8], memory: &[u32], weights: &[u16]) -> Opened
             if memory.len() != locations {
                 return refusal(OpenAnswer::Length);
             }
-            if weights.len() != 13 {
+            if weights.len() != 15 {
                 return refusal(OpenAnswer::Table);
             }
             if all_weights(weights) {

@@ -40,7 +40,7 @@ pub fn blank_run() -> Run
         left: 0,
         calls: 0,
         weight: 0,
-        weights: [0u16; 13],
+        weights: [0u16; 15],
     }
 }
 
@@ -73,7 +73,7 @@ pub fn root_modes(locations: usize) -> [u8; 8192]
 }
 
 // The fresh run of a list and a memory that fits it, under these weights.
-pub fn initial(tables: Tables, numbers: &[u32], weights: [u16; 13]) -> Run
+pub fn initial(tables: Tables, numbers: &[u32], weights: [u16; 15]) -> Run
     requires { ⌜ (length (now numbers) ≡ tables .locations) × (tables .locations ≤ 64) ⌝ }
     ensures { λ r. ⌜ InitialOf tables (now (numbers .entry)) weights r ⌝ }
 {

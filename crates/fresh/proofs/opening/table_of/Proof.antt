@@ -12,10 +12,10 @@ use Rattle.fresh.proofs.opening.table_of.Statement.{statement}
 use Rattle.fresh.proofs.opening.table_of.Tie as tie
 
 abbrev Inv-loop : tie.InvT-loop
-Inv-loop numbers table₀ i₀ table i = (i ≤ 13) × (length table ≡ 13) × (take i table ≡ take i numbers)
+Inv-loop numbers table₀ i₀ table i = (i ≤ 15) × (length table ≡ 15) × (take i table ≡ take i numbers)
 
 abbrev μ-loop : tie.MeasureT-loop
-μ-loop numbers table₀ i₀ table i = 13 - i
+μ-loop numbers table₀ i₀ table i = 15 - i
 
 loop-holds : tie.Need-loop-holds Inv-loop μ-loop
 loop-holds c = search needs

@@ -555,7 +555,7 @@ fn rate_group(rng: &mut Rng, draft: &Draft, room: usize) -> Vec<Instruction> {
         c = rng.pick(&[b, c, c]);
     } else {
         let mut operands = random_operands(rng, divides);
-        while tame && result_of(divides, operands).is_err() && rng.percent(70) {
+        while tame && result_of(divides, operands).is_err() && rng.percent(50) {
             operands = random_operands(rng, divides);
         }
         group.extend(number_into(b, spare, operands.0));
@@ -628,7 +628,13 @@ pub fn random_operands(rng: &mut Rng, divides: bool) -> (u32, u32) {
             let c = rng.between(1000, [65535, 1500, 1100][kind - 4]) as u64;
             (limit * 500 / c + rng.below(2) as u64, c)
         }
+        (7, true) if rng.percent(30) => (0, 0),
         (7, true) => (random_number(rng), 0),
+        // A little above 2^63: its double is a little above 2^64.
+        (7, false) => {
+            let b = (1 << 31) + 1 + rng.below((1 << 31) - 1) as u64;
+            (b, (1 << 63) / b + 1)
+        }
         _ => (random_number(rng), random_number(rng)),
     };
     let mut operands = [b, c].map(|number| number.min(u32::MAX as u64) as u32);

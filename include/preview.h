@@ -39,15 +39,15 @@ uint32_t preview_check(const uint8_t *list, size_t list_len);
  * Runs a job list by hand, one job after the other, on a library: the C entries of the list, four bytes for each, least
  * first. C is the third byte of the list, 1 to 64; of a list of no bytes it is 1.
  *
- * The table has what calls weigh, 13 numbers from 1 to 1000, two bytes for each, least first: a start, an end, then the
- * instructions of codes 0 to 10, that of code 9 for each child. Today's numbers, which the coordinator goes by, are
- * 5, 2, 1, 1, 1, 1, 3, 4, 1, 8, 1, 8, 4.
+ * The table has what calls weigh, 15 numbers from 1 to 1000, two bytes for each, least first: a start, an end, then the
+ * instructions of codes 0 to 12, that of code 9 for each child. Today's numbers, which the coordinator goes by, are
+ * 5, 2, 1, 1, 1, 1, 3, 4, 1, 8, 1, 8, 4, 1, 1.
  *
  *   0           done: the first 4 * C bytes of `result` are the entries after the run, four bytes for each, least first;
  *               the bytes behind them are as they were
  *   129 to 135  the list is refused, as preview_check says
  *   136         refused, 8: library_len is not 4 * C
- *   149         refused, 21: table_len is not 26
+ *   149         refused, 21: table_len is not 30
  *   150         refused, 22: a number of the table is not in 1 to 1000
  *   145         refused, 17: result_len is below 4 * C
  *

@@ -15,8 +15,8 @@
 /* One byte more than the longest list, so that a longer file is refused; likewise for the longest library. */
 enum { LIST_ROOM = 4806, LIBRARY_ROOM = 257 };
 
-/* Today's weights: a start, an end, then the instructions of codes 0 to 10; two bytes for each, least first. */
-static const uint8_t table[26] = {5, 0, 2, 0, 1, 0, 1, 0, 1, 0, 1, 0, 3, 0, 4, 0, 1, 0, 8, 0, 1, 0, 8, 0, 4, 0};
+/* Today's weights: a start, an end, then the instructions of codes 0 to 12; two bytes for each, least first. */
+static const uint8_t table[30] = {5, 0, 2, 0, 1, 0, 1, 0, 1, 0, 1, 0, 3, 0, 4, 0, 1, 0, 8, 0, 1, 0, 8, 0, 4, 0, 1, 0, 1, 0};
 
 /* Refusals are 128 plus document 01's or 02's number. */
 static const char *refusal(uint32_t answer)
@@ -31,7 +31,7 @@ static const char *refusal(uint32_t answer)
     case 7: return "the list could make more than 128 jobs";
     case 8: return "the library does not have four bytes for each entry of the list";
     case 17: return "the place for the result is too short";
-    case 21: return "the table does not have two bytes for each of 13 numbers";
+    case 21: return "the table does not have two bytes for each of 15 numbers";
     case 22: return "a number of the table is not in 1 to 1000";
     default: return "no known answer";
     }

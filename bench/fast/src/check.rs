@@ -18,7 +18,7 @@ impl Index {
 
 /// The bits of an instruction (code least) that must be 0, by its code: registers are 0 to 3, "fields not listed are 0"; a
 /// fan has up to 16 children.
-const ZEROS: [u32; 11] = [
+const ZEROS: [u32; 13] = [
     0x0000_FC00,
     0xFCFC_FC00,
     0xFCFC_FC00,
@@ -30,6 +30,8 @@ const ZEROS: [u32; 11] = [
     0xFFFF_FC00,
     0xE000_0000,
     0xFFFC_FC00,
+    0xFCFC_FC00,
+    0xFCFC_FC00,
 ];
 
 pub fn word(field: &[u8]) -> u32 {
@@ -116,7 +118,7 @@ pub fn read(list: &[u8], mut keep: impl FnMut(bool, usize, u16, u8)) -> Result<u
         for (i, field) in body.chunks_exact(4).enumerate() {
             let w = word(field);
             let code = (w & 0xFF) as usize;
-            if code > 10 || w & ZEROS[code] != 0 {
+            if code > 12 || w & ZEROS[code] != 0 {
                 return Err(5);
             }
             let b = (w >> 16 & 0xFF) as usize;

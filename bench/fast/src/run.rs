@@ -38,8 +38,8 @@ struct Job<'a> {
     index: Index,
     counts: [u32; 32],
     locations: usize,
-    /// "start, end, then codes 0 to 9, code 9's per child", then that of code 10
-    table: &'a [u16; 13],
+    /// "start, end, then codes 0 to 9, code 9's per child", then those of codes 10 to 12
+    table: &'a [u16; 15],
 }
 
 pub fn hand_run(file: &[u8], memory: &[u32], table: &[u16], run: &mut Run) -> u32 {
@@ -52,7 +52,7 @@ pub fn hand_run(file: &[u8], memory: &[u32], table: &[u16], run: &mut Run) -> u3
     if memory.len() != locations {
         return 128 + 8;
     }
-    let Ok(table) = <&[u16; 13]>::try_from(table) else {
+    let Ok(table) = <&[u16; 15]>::try_from(table) else {
         return 128 + 21;
     };
     if !table.iter().all(|number| (1..=1000).contains(number)) {
@@ -75,6 +75,12 @@ pub fn hand_run(file: &[u8], memory: &[u32], table: &[u16], run: &mut Run) -> u3
     job.count();
     job.whole(run, 0, 0, [0; 4]);
     0
+}
+
+/// "Both round to the nearest whole number, halves upward, on the exact value": n / d, none where it is above 2^32 − 1. What
+/// is added doesn't reach 2^64.
+fn nearest(n: u64, d: u64) -> Option<u32> {
+    u32::try_from((n + d / 2) / d).ok()
 }
 
 impl Job<'_> {
@@ -189,7 +195,7 @@ impl Job<'_> {
             let (ra, rb) = (registers[a as usize & 3], registers[b as usize & 3]);
             let rc = registers[c as usize & 3];
             done += 1;
-            weight += codes[code as usize % 11] as u32 * if code == 9 { c as u32 } else { 1 };
+            weight += codes[code as usize % 13] as u32 * if code == 9 { c as u32 } else { 1 };
             let mut passed = 0;
             match code {
                 0 => registers[a as usize & 3] = b as u32 + 256 * c as u32,
@@ -226,6 +232,15 @@ impl Job<'_> {
                         *entry = entry.wrapping_add(rb);
                     }
                 }
+                11 => match nearest(rb as u64 * rc as u64, 1000) {
+                    Some(result) => registers[a as usize & 3] = result,
+                    None => fault = 4,
+                },
+                12 if rc == 0 => fault = 5,
+                12 => match nearest(1000 * rb as u64, rc as u64) {
+                    Some(result) => registers[a as usize & 3] = result,
+                    None => fault = 4,
+                },
                 _ => fault = self.fault(&run.modes[task], ra, 0),
             }
             if fault != 0 {

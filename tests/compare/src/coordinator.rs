@@ -13,7 +13,7 @@ use second::rng::Rng;
 use second::{empty_list, encode, files_transcript};
 
 use crate::shrink::{less_entries, shrink, smaller_bytes, smaller_lists};
-use crate::{has_fan, has_sum, refusal_words};
+use crate::{has_fan, has_rate, has_sum, refusal_words};
 
 /// What stands under a file's name.
 #[derive(Clone, Debug, PartialEq, Eq)]
@@ -275,9 +275,11 @@ pub struct Met {
     pub unreadable: u64,
     /// With a jobs.bin of no bytes.
     pub empty: u64,
-    /// Opened with a list in which a fan stands, and with one in which a sum does.
+    /// Opened with a list in which a fan stands, one in which a sum does, and one in which a product or
+    /// quotient in thousandths does.
     pub fans: u64,
     pub sums: u64,
+    pub rates: u64,
     pub in_pieces: u64,
     pub half_calls: u64,
     /// Lines of calls, and those among them that are not 0.
@@ -305,6 +307,7 @@ impl Met {
         }
         self.fans += files[0].is_some_and(has_fan) as u64;
         self.sums += files[0].is_some_and(has_sum) as u64;
+        self.rates += files[0].is_some_and(has_rate) as u64;
         let calls = case.input.len().div_ceil(2);
         self.calls += calls as u64;
         let answers: Vec<&str> = text.lines().take(calls).collect();
@@ -318,12 +321,13 @@ impl Met {
 
     pub fn words(&self) -> String {
         format!(
-            "{} opened, {} with fans, {} with sums, {} to the end, {} calls with {} refused ones (19 x {}, \
-             20 x {}), {} half calls, {} inputs in pieces, {} with an unreadable file, {} with an empty \
-             list; opens refused: {}",
+            "{} opened, {} with fans, {} with sums, {} with thousandths, {} to the end, {} calls with {} \
+             refused ones (19 x {}, 20 x {}), {} half calls, {} inputs in pieces, {} with an unreadable \
+             file, {} with an empty list; opens refused: {}",
             self.transcripts as u64 - self.refused.iter().sum::<u64>(),
             self.fans,
             self.sums,
+            self.rates,
             self.to_the_end,
             self.calls,
             self.refused_calls,
@@ -454,6 +458,7 @@ mod tests {
             met.to_the_end,
             met.fans,
             met.sums,
+            met.rates,
             met.held[0],
             met.held[1],
         ] {
@@ -569,7 +574,7 @@ mod tests {
             _ => right(case),
         };
         let text = found(&refused);
-        assert!(text.contains("jobs.bin \nlibrary.bin \n"), "{text}");
+        assert!(text.contains("jobs.bin \nlibrary.bin "), "{text}");
         assert!(text.contains("second: refused 8\n"), "{text}");
         // A jobs.bin that can't be read is taken for an empty one.
         let unread = |case: &Case| {

@@ -38,6 +38,16 @@ pub fn has_sum(bytes: &[u8]) -> bool {
     })
 }
 
+/// A product or quotient in thousandths.
+pub fn has_rate(bytes: &[u8]) -> bool {
+    has(bytes, |instruction| {
+        matches!(
+            instruction,
+            Instruction::Mul { .. } | Instruction::Div { .. }
+        )
+    })
+}
+
 #[cfg(test)]
 mod tests {
     use second::case_file::{cases_output, encode_cases};

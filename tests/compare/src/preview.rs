@@ -4,16 +4,18 @@ use std::time::Duration;
 
 use second::cases::EXAMPLE_P;
 use second::cases::{alterations, damaged_list, hex, library_bytes, list_case, random_library};
-use second::cases::{bad_table, fan_tree, random_list, random_table, table_bytes, too_many_tasks};
+use second::cases::{bad_table, fan_tree, random_list, random_operands, random_table};
+use second::cases::{table_bytes, too_many_tasks};
 use second::list::decode_records;
 use second::named::{
-    children_that_sum, deepest_list, fan_of_strengths, lines_of_each_mode, longest_list, sum_line,
+    children_that_sum, constant, deepest_list, div, fan_of_strengths, lines_of_each_mode, list,
+    longest_list, mul, rate_between_spawns, sum_line,
 };
 use second::rng::Rng;
-use second::{encode, preview_check, preview_hand_run, TODAY};
+use second::{encode, preview_check, preview_hand_run, Instruction, TODAY};
 
 use crate::shrink::{less_entries, shrink, smaller_bytes, smaller_lists};
-use crate::{has_fan, has_sum, refusal_words};
+use crate::{has_fan, has_rate, has_sum, refusal_words};
 
 /// preview_check(list, list_len)
 pub type Check = unsafe extern "C" fn(*const u8, usize) -> u32;
@@ -233,7 +235,8 @@ fn one_fan(children: u8) -> Vec<u8> {
     bytes
 }
 
-/// A list of one line and one instruction, good or bad: of sums, or of the kinds and codes beyond them.
+/// A list of one line and one instruction, good or bad: of sums and thousandths, or of the kinds and codes
+/// beyond them.
 fn one_line_and_instruction(line: [u8; 2], instruction: [u8; 4]) -> Vec<u8> {
     let mut bytes = vec![0x4A, 0x48, 2, 1, 1, 0x4A, 0x46, 1];
     bytes.extend(line);
@@ -254,16 +257,27 @@ pub fn lists(seed: u64) -> impl Iterator<Item = Lent> {
         fan_of_strengths(),
         children_that_sum(sum_line(0)),
         lines_of_each_mode(),
+        rate_between_spawns(div(3, 2, 1)),
     ];
-    for i in 0..280 {
-        lists.push(whole(match i % 14 {
+    for i in 0..300 {
+        lists.push(whole(match i % 15 {
             0 => named[rng.below(named.len())].clone(),
             refusal @ 1..=7 => damaged_list(&mut rng, refusal),
             8 => Vec::new(),
             9 => one_fan(rng.pick(&[0, 1, 16, 17, 255])),
             10 => one_line_and_instruction(
                 rng.pick(&[[4, 1], [4, 2], [5, 3], [5, 4], [6, 0]]),
-                rng.pick(&[[10, 0, 0, 0], [10, 3, 3, 0], [10, 0, 4, 0], [11, 0, 0, 0]]),
+                rng.pick(&[[10, 0, 0, 0], [10, 3, 3, 0], [10, 0, 4, 0]]),
+            ),
+            11 => one_line_and_instruction(
+                [5, 3],
+                rng.pick(&[
+                    [11, 3, 3, 3],
+                    [11, 4, 0, 0],
+                    [12, 0, 3, 3],
+                    [12, 0, 0, 4],
+                    [13, 0, 0, 0],
+                ]),
             ),
             _ => encode(&random_list(&mut rng)),
         }));
@@ -274,6 +288,7 @@ pub fn lists(seed: u64) -> impl Iterator<Item = Lent> {
         longest_list(),
         fan_of_strengths(),
         children_that_sum(sum_line(0)),
+        rate_between_spawns(div(3, 2, 1)),
         encode(&fan_tree(15)),
         encode(&too_many_tasks(&mut rng)),
     ];
@@ -322,7 +337,8 @@ fn table_of(rng: &mut Rng) -> Lent {
         1 => fitting / 2,
         2 => rng.pick(&[0, 1, 2]),
         3 => fitting + rng.pick(&[1, 2, 6]),
-        _ => fitting - rng.pick(&[1, 2]),
+        // Those before the last requests have 24 and 26 bytes.
+        _ => fitting - rng.pick(&[1, 2, 4, 6]),
     };
     let mut table = cut(&bytes, length);
     if rng.percent(50) {
@@ -369,11 +385,11 @@ fn case_of(rng: &mut Rng, list: Lent) -> Case {
     }
 }
 
-/// P under tables of each length up to 32 bytes, and under such with each number in turn at the limits and
+/// P under tables of each length up to 36 bytes, and under such with each number in turn at the limits and
 /// beyond them; with a library and a result slice that fit, then with one that doesn't.
 fn table_cases() -> Vec<Case> {
-    let mut tables: Vec<Lent> = (0..=32)
-        .map(|length| cut(&[1, 0].repeat(16), length))
+    let mut tables: Vec<Lent> = (0..=36)
+        .map(|length| cut(&[1, 0].repeat(18), length))
         .collect();
     for place in 0..TODAY.len() {
         for number in [0, 1, 1000, 1001, 65535] {
@@ -397,11 +413,48 @@ fn table_cases() -> Vec<Case> {
     cases
 }
 
-/// Cases without end: those of tables, then one for each of the lists.
+/// #108: R1 and R2 are the entries 0 and 1; what this leaves in R3 is stored to entry 0, and entry 2 is then
+/// made 2, which it is only where there was no fault.
+fn rate_in_entries(instruction: Instruction) -> Vec<u8> {
+    list(
+        3,
+        &[],
+        &[&[
+            Instruction::Load { a: 1, b: 0 },
+            constant(2, 1),
+            Instruction::Load { a: 2, b: 2 },
+            instruction,
+            Instruction::Store { a: 0, b: 3 },
+            constant(2, 2),
+            Instruction::Store { a: 2, b: 2 },
+        ]],
+    )
+}
+
+/// #108: a product and a quotient of two entries, in turn: halves, results next to fault 4, zero divisors,
+/// and numbers of all sizes.
+fn rate_cases(rng: &mut Rng) -> Vec<Case> {
+    let lists = [mul(3, 1, 2), div(3, 1, 2)].map(rate_in_entries);
+    let mut cases = Vec::new();
+    for i in 0..400 {
+        let (b, c) = random_operands(rng, i % 2 == 1);
+        cases.push(Case {
+            list: whole(lists[i % 2].clone()),
+            library: whole(library_bytes(&[b, c, 7])),
+            table: whole(table_bytes(&TODAY)),
+            result: 12,
+            shift: i % 8,
+        });
+    }
+    cases
+}
+
+/// Cases without end: those of tables and of rates, then one for each of the lists.
 fn cases(seed: u64) -> impl Iterator<Item = Case> {
     let mut rng = Rng::new(!seed);
+    let first = [table_cases(), rate_cases(&mut rng)].concat();
     let of_lists = lists(seed).map(move |list| case_of(&mut rng, list));
-    table_cases().into_iter().chain(of_lists)
+    first.into_iter().chain(of_lists)
 }
 
 // ---------------------------------------------------------------------------------------------
@@ -416,9 +469,11 @@ pub struct Met {
     pub lists: usize,
     /// Lists of no bytes that the hand run accepts.
     pub empty: u64,
-    /// Lists with a fan, and such with a sum, that the hand run accepts.
+    /// Lists with a fan, with a sum, and with a product or quotient in thousandths, that the hand run
+    /// accepts.
     pub fans: u64,
     pub sums: u64,
+    pub rates: u64,
     /// Hand runs accepted with another table than today's numbers.
     pub own_tables: u64,
     pub check: [u64; REFUSALS],
@@ -434,6 +489,7 @@ impl Met {
         self.empty += (case.list.bytes.is_empty() && answers.hand_run == 0) as u64;
         self.fans += (answers.hand_run == 0 && has_fan(&case.list.bytes)) as u64;
         self.sums += (answers.hand_run == 0 && has_sum(&case.list.bytes)) as u64;
+        self.rates += (answers.hand_run == 0 && has_rate(&case.list.bytes)) as u64;
         let own_table = case.table.bytes != table_bytes(&TODAY);
         self.own_tables += (answers.hand_run == 0 && own_table) as u64;
         self.check[answers.check.saturating_sub(128) as usize] += 1;
@@ -454,13 +510,14 @@ impl Met {
     pub fn words(&self) -> String {
         format!(
             "check accepts {}, refuses {}; the hand run accepts {} ({} of no bytes, {} with fans, {} \
-             with sums, {} with other weights than today's), refuses {}",
+             with sums, {} with thousandths, {} with other weights than today's), refuses {}",
             self.check[0],
             refusal_words_of(&self.check),
             self.hand_run[0],
             self.empty,
             self.fans,
             self.sums,
+            self.rates,
             self.own_tables,
             refusal_words_of(&self.hand_run)
         )
@@ -622,6 +679,9 @@ pub fn describe(functions: &Functions, case: &Case) -> String {
 #[cfg(test)]
 mod tests {
     use super::*;
+    use second::cases::{sensible_call, Strategy};
+    use second::coordinator::call;
+    use second::run::{instruction_at, product, quotient};
 
     unsafe fn slice<'a>(pointer: *const u8, length: usize) -> &'a [u8] {
         std::slice::from_raw_parts(pointer, length)
@@ -667,7 +727,7 @@ mod tests {
             result,
             result_len,
         );
-        if answer == 136 && table_len != 26 {
+        if answer == 136 && table_len != 30 {
             return 149;
         }
         answer
@@ -752,8 +812,8 @@ mod tests {
         let mut bytes = slice(list, list_len).to_vec();
         if let Ok(mut list) = second::decode(&bytes) {
             for instruction in list.bodies.iter_mut().flatten() {
-                if let second::Instruction::Sum { a, b } = *instruction {
-                    *instruction = second::Instruction::Store { a, b };
+                if let Instruction::Sum { a, b } = *instruction {
+                    *instruction = Instruction::Store { a, b };
                 }
             }
             if list_len > 0 {
@@ -772,7 +832,180 @@ mod tests {
         )
     }
 
-    /// A table of 12 numbers is taken, with today's number for the sum.
+    unsafe extern "C" fn check_refuses_rates(list: *const u8, list_len: usize) -> u32 {
+        if has_rate(slice(list, list_len)) {
+            return 133;
+        }
+        check(list, list_len)
+    }
+
+    /// A bad last register of a quotient is taken for R3.
+    unsafe extern "C" fn check_accepts_bad_quotients(list: *const u8, list_len: usize) -> u32 {
+        let mut bytes = slice(list, list_len).to_vec();
+        for place in 3..bytes.len() {
+            if bytes[place - 3..=place] == [12, 0, 0, 4] {
+                bytes[place] = 3;
+            }
+        }
+        preview_check(&bytes)
+    }
+
+    /// What a code makes of Rb and Rc: a result, or a fault.
+    type Rate = fn(u32, u32) -> Result<u32, u8>;
+
+    /// The entries after a hand run in which products and quotients give these.
+    fn entries_with_rates(mut run: second::Run, product: Rate, quotient: Rate) -> Vec<u8> {
+        let mut rng = Rng::new(0);
+        // The front job's only possible call is the hand run's next.
+        while let Some((kind, job)) = sensible_call(&mut rng, Strategy::Front, &run, 0) {
+            let before = run.records[job as usize].clone();
+            let rate = match kind {
+                1 => match instruction_at(&run, job as usize) {
+                    Instruction::Mul { a, b, c } => Some((product, a, b, c)),
+                    Instruction::Div { a, b, c } => Some((quotient, a, b, c)),
+                    _ => None,
+                },
+                _ => None,
+            };
+            call(&mut run, kind, job).expect("a sensible call");
+            let Some((rate, a, b, c)) = rate else {
+                continue;
+            };
+            let registers = before.registers;
+            let record = &mut run.records[job as usize];
+            (record.pc, record.registers) = (before.pc, registers);
+            match rate(registers[b as usize], registers[c as usize]) {
+                Ok(result) => {
+                    record.registers[a as usize] = result;
+                    (record.pc, record.fault) = (before.pc + 1, 0);
+                }
+                Err(fault) => record.fault = fault,
+            }
+        }
+        library_bytes(&run.memory)
+    }
+
+    /// Hand runs with wrong products or quotients.
+    macro_rules! wrong_rates {
+        ($name:ident, $product:expr, $quotient:expr) => {
+            unsafe extern "C" fn $name(
+                list: *const u8,
+                list_len: usize,
+                library: *const u8,
+                library_len: usize,
+                table: *const u8,
+                table_len: usize,
+                result: *mut u8,
+                result_len: usize,
+            ) -> u32 {
+                let answer = hand_run(
+                    list,
+                    list_len,
+                    library,
+                    library_len,
+                    table,
+                    table_len,
+                    result,
+                    result_len,
+                );
+                if answer == 0 {
+                    let (list, library) = (slice(list, list_len), slice(library, library_len));
+                    let run = second::coordinator::open_files(list, library).unwrap();
+                    let entries = entries_with_rates(run, $product, $quotient);
+                    result.copy_from(entries.as_ptr(), entries.len());
+                }
+                answer
+            }
+        };
+    }
+
+    fn whole_number(n: u128, fault: bool) -> Result<u32, u8> {
+        if fault {
+            Err(4)
+        } else {
+            Ok(n as u32)
+        }
+    }
+
+    wrong_rates!(right_rates, product, quotient);
+    wrong_rates!(
+        products_rounded_down,
+        |b, c| {
+            let n = b as u128 * c as u128 / 1000;
+            whole_number(n, n >> 32 != 0)
+        },
+        quotient
+    );
+    wrong_rates!(quotients_with_halves_down, product, |b, c| {
+        let (n, d) = (1000 * b as u128, c.max(1) as u128);
+        match quotient(b, c) {
+            Ok(result) if 2 * n + d == 2 * d * result as u128 => Ok(result - 1),
+            answer => answer,
+        }
+    });
+    wrong_rates!(
+        fault_4_by_the_exact_product,
+        |b, c| {
+            let n = b as u128 * c as u128;
+            whole_number((n + 500) / 1000, n > 1000 * u32::MAX as u128)
+        },
+        quotient
+    );
+    wrong_rates!(
+        products_that_wrap,
+        |b, c| {
+            let n = b as u128 * c as u128;
+            whole_number((n + 500) / 1000, n / 1000 > u32::MAX as u128)
+        },
+        quotient
+    );
+    wrong_rates!(
+        products_of_64_bits,
+        |b, c| {
+            let n = (2 * b as u128 * c as u128 + 1000) as u64 as u128 / 2000;
+            whole_number(n, n >> 32 != 0)
+        },
+        quotient
+    );
+    wrong_rates!(quotients_of_zeros, product, |b, c| if (b, c) == (0, 0) {
+        Ok(0)
+    } else {
+        quotient(b, c)
+    });
+    wrong_rates!(
+        zeros_as_fault_5,
+        |b, c| if c == 0 { Err(5) } else { product(b, c) },
+        quotient
+    );
+
+    /// A table of 13 numbers is taken, with today's numbers for thousandths.
+    unsafe extern "C" fn takes_13_numbers(
+        list: *const u8,
+        list_len: usize,
+        library: *const u8,
+        library_len: usize,
+        table: *const u8,
+        table_len: usize,
+        result: *mut u8,
+        result_len: usize,
+    ) -> u32 {
+        let mut numbers = slice(table, table_len).to_vec();
+        if table_len == 26 {
+            numbers.extend([1, 0, 1, 0]);
+        }
+        hand_run(
+            list,
+            list_len,
+            library,
+            library_len,
+            numbers.as_ptr(),
+            numbers.len(),
+            result,
+            result_len,
+        )
+    }
+
+    /// A table of 12 numbers is taken, with today's numbers for the sum and for thousandths.
     unsafe extern "C" fn takes_12_numbers(
         list: *const u8,
         list_len: usize,
@@ -785,7 +1018,7 @@ mod tests {
     ) -> u32 {
         let mut numbers = slice(table, table_len).to_vec();
         if table_len == 24 {
-            numbers.extend([4, 0]);
+            numbers.extend([4, 0, 1, 0, 1, 0]);
         }
         hand_run(
             list,
@@ -904,7 +1137,7 @@ mod tests {
                                    _result,
                                    _length,
                                    answer| {
-        if answer == 0 && *table.add(24) == 0xE8 && *table.add(25) == 3 {
+        if answer == 0 && *table.add(28) == 0xE8 && *table.add(29) == 3 {
             150
         } else {
             answer
@@ -912,7 +1145,7 @@ mod tests {
     });
     /// Tests all numbers but the last.
     unsafe fn first_numbers_are_good(table: *const u8) -> bool {
-        let mut numbers = slice(table, 24).chunks(2);
+        let mut numbers = slice(table, 28).chunks(2);
         numbers.all(|bytes| (1..=1000).contains(&u16::from_le_bytes([bytes[0], bytes[1]])))
     }
     wrong_hand_run!(
@@ -951,7 +1184,11 @@ mod tests {
         assert!(met.check[0] > 100 && met.hand_run[0] > 100 && met.empty > 5);
         assert!(met.hand_run[21] > 30 && met.hand_run[22] > 30);
         assert!(met.fans > 20 && met.own_tables > 40, "{}", met.words());
-        assert!(met.sums > 20, "{}", met.words());
+        assert!(met.sums > 20 && met.rates > 405, "{}", met.words());
+        // The stand-in for wrong rates is right with the right ones.
+        let hand_run = right_rates;
+        let met = compare(&Functions { check, hand_run }, 2000, 1);
+        assert_eq!((met.lists, met.different), (2000, 0));
     }
 
     #[test]
@@ -979,6 +1216,28 @@ mod tests {
                 "second: check 133, ",
             ),
             (with_hand_run(sums_store), 24, "hand run 0, result "),
+            (with_check(check_refuses_rates), 12, "preview: check 133, "),
+            (
+                with_check(check_accepts_bad_quotients),
+                20,
+                "second: check 133, ",
+            ),
+            (with_hand_run(products_rounded_down), 44, "hand run 0"),
+            (with_hand_run(quotients_with_halves_down), 44, "hand run 0"),
+            (
+                with_hand_run(fault_4_by_the_exact_product),
+                44,
+                "second: check 1, hand run 0",
+            ),
+            (with_hand_run(products_that_wrap), 44, "hand run 0"),
+            (with_hand_run(products_of_64_bits), 44, "hand run 0"),
+            (with_hand_run(quotients_of_zeros), 44, "hand run 0"),
+            (with_hand_run(zeros_as_fault_5), 44, "hand run 0"),
+            (
+                with_hand_run(takes_13_numbers),
+                8,
+                "second: check 1, hand run 149",
+            ),
             (
                 with_hand_run(takes_12_numbers),
                 8,
@@ -993,7 +1252,7 @@ mod tests {
             (with_hand_run(writes_before), 0, "spoiled: library"),
             (with_hand_run(writes_more), 17, "hand run 0"),
             (with_hand_run(writes_on_refusal), 13, "hand run 145"),
-            (with_hand_run(wrong_entry), 36, "result 08"),
+            (with_hand_run(wrong_entry), 44, "result 08"),
             (with_hand_run(no_17), 12, "hand run 145"),
             (
                 with_hand_run(table_first),
@@ -1003,7 +1262,8 @@ mod tests {
             (
                 with_hand_run(refuses_1000),
                 8,
-                "table 050002000100010001000100030004000100080001000800e803",
+                "table 0500020001000100010001000300040001000800010008000400\
+                 0100e803",
             ),
             (
                 with_hand_run(no_22_in_the_last),
@@ -1013,7 +1273,7 @@ mod tests {
             (with_hand_run(short_before_table), 8, "hand run 150"),
             (with_hand_run(writes_in_the_table), 0, "spoiled: table"),
         ] {
-            let met = compare(&functions, 1000, 1);
+            let met = compare(&functions, 1400, 1);
             let case = met.smallest.unwrap();
             let text = describe(&functions, &case);
             assert!(met.different > 0 && size(&case) <= most, "{text}");

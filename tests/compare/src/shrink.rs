@@ -82,7 +82,8 @@ pub fn less_entries(bytes: &[u8]) -> Option<Vec<u8>> {
 const NOTHING: Instruction = Instruction::Const { a: 0, value: 0 };
 
 /// The list without a sheet, a footprint, an instruction or a line, or with a simpler instruction: a fan of
-/// fewer children or a spawn, a store for a sum, or nothing.
+/// fewer children or a spawn, a store for a sum, a product for a quotient, a sum of registers for it, or
+/// nothing.
 fn smaller_records(list: &TaskList) -> Vec<TaskList> {
     let mut smaller = Vec::new();
     for s in 1..list.bodies.len() {
@@ -135,6 +136,12 @@ fn simpler_instructions(instruction: Instruction) -> Vec<Instruction> {
     }
     if let Instruction::Sum { a, b } = instruction {
         simpler.push(Instruction::Store { a, b });
+    }
+    if let Instruction::Div { a, b, c } = instruction {
+        simpler.push(Instruction::Mul { a, b, c });
+    }
+    if let Instruction::Mul { a, b, c } = instruction {
+        simpler.push(Instruction::Add { a, b, c });
     }
     simpler
 }

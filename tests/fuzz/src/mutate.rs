@@ -71,7 +71,7 @@ fn change_table(rng: &mut Rng, parts: &mut Parts) {
         1 => table_bytes(&bad_table(rng)),
         2 => {
             let mut table = table_bytes(&random_table(rng));
-            table.resize(rng.pick(&[0, 1, 2, 24, 25, 27, 28, 30, 32]), 1);
+            table.resize(rng.pick(&[0, 1, 2, 24, 26, 28, 29, 31, 32, 34]), 1);
             table
         }
         3 | 4 => table_bytes(&TODAY),
@@ -197,14 +197,15 @@ fn any_line(rng: &mut Rng, locations: usize) -> Line {
     line
 }
 
-/// An instruction of any form; a constant is mostly an entry's number.
+/// An instruction of any form; a constant is mostly an entry's number, sometimes one that makes halves in thousandths.
 fn any_instruction(rng: &mut Rng, list: &TaskList, s: usize) -> Instruction {
     let (a, b, c) = (rng.below(4) as u8, rng.below(4) as u8, rng.below(4) as u8);
-    match rng.below(15) {
+    match rng.below(18) {
         0 | 1 => {
-            let value = match rng.below(8) {
+            let value = match rng.below(9) {
                 0 => rng.below(65_536),
                 1 => list.locations,
+                2 => rng.pick(&[1, 16, 500, 999, 1000, 1001, 2000, 65_535]),
                 _ => rng.below(list.locations),
             };
             Instruction::Const {
@@ -231,6 +232,8 @@ fn any_instruction(rng: &mut Rng, list: &TaskList, s: usize) -> Instruction {
             children: rng.pick(&[1, 2, 3, 16, rng.clone().between(1, 16) as u8, 0, 17]),
         },
         12 | 13 => Instruction::Sum { a, b },
+        14 | 15 => Instruction::Mul { a, b, c },
+        16 => Instruction::Div { a, b, c },
         _ => Instruction::Wait { a },
     }
 }

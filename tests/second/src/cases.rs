@@ -6,7 +6,7 @@ use crate::list::{
     TaskList, COUNT_CAP,
 };
 use crate::rng::Rng;
-use crate::run::{at_its_end, line_mode, test_end, test_start, test_step, Run};
+use crate::run::{at_its_end, line_mode, product, quotient, test_end, test_start, test_step, Run};
 use crate::run::{NONE, READ, SUM, TODAY, WAITING, WEIGHTS, WRITE};
 
 /// P of "Publishing examples", byte by byte.
@@ -38,6 +38,8 @@ pub struct Shape {
     pub fan_percent: usize,
     /// How often a line sums (#107).
     pub sum_percent: usize,
+    /// How often what is no spawn is a product or quotient in thousandths (#108).
+    pub rate_percent: usize,
     /// How often fields are chosen so that the step should not fault.
     pub tame_percent: usize,
     /// The largest count(0), and the largest count of the other bodies.
@@ -59,12 +61,13 @@ pub fn random_shape(rng: &mut Rng) -> Shape {
         spawn_percent: 40,
         fan_percent: rng.pick(&[0, 20, 40, 80]),
         sum_percent: rng.pick(&[0, 20, 40, 70]),
+        rate_percent: rng.pick(&[0, 5, 15]),
         tame_percent: 98,
         root_limit: 128,
         other_limit: 30,
         fill: false,
     };
-    match rng.below(15) {
+    match rng.below(17) {
         0 | 1 => Shape {
             locations: rng.between(1, 3),
             footprints: rng.between(1, 4),
@@ -117,6 +120,15 @@ pub fn random_shape(rng: &mut Rng) -> Shape {
             spawn_percent: 50,
             fan_percent: rng.pick(&[20, 60]),
             sum_percent: rng.pick(&[70, 90, 100]),
+            ..medium
+        },
+        // Rates: few jobs that work with thousandths.
+        15 | 16 => Shape {
+            locations: rng.between(1, 4),
+            bodies: rng.between(1, 4),
+            instructions: rng.between(8, 32),
+            spawn_percent: 15,
+            rate_percent: rng.pick(&[40, 80]),
             ..medium
         },
         // Bodies that are mostly empty.
@@ -375,6 +387,9 @@ fn random_body(
             let room = limit - count;
             group = spawn_group(rng, &draft, room);
         }
+        if group.is_empty() && rng.percent(shape.rate_percent) {
+            group = rate_group(rng, &draft, length - body.len());
+        }
         if group.is_empty() {
             group = other_group(rng, &draft);
         }
@@ -525,7 +540,179 @@ fn draw_children(
     })
 }
 
-/// Any instruction but a spawn; a load, store, wait or sum mostly behind the constant for its entry.
+/// #108: a product or quotient, whose result is then mostly stored to an entry or added to it, so that it
+/// shows there. Its operands are what the registers hold, or such as are set now; empty when these don't
+/// fit into `room` instructions.
+fn rate_group(rng: &mut Rng, draft: &Draft, room: usize) -> Vec<Instruction> {
+    let tame = rng.percent(draft.shape.tame_percent);
+    let divides = rng.percent(50);
+    let mut registers = [0, 1, 2, 3];
+    rng.shuffle(&mut registers);
+    let [b, mut c, other, spare] = registers;
+    let mut group = Vec::new();
+    // What the registers hold is often 0: such a quotient is rare where it should not fault.
+    if rng.percent(if tame && divides { 5 } else { 20 }) {
+        c = rng.pick(&[b, c, c]);
+    } else {
+        let mut operands = random_operands(rng, divides);
+        while tame && result_of(divides, operands).is_err() && rng.percent(50) {
+            operands = random_operands(rng, divides);
+        }
+        group.extend(number_into(b, spare, operands.0));
+        group.extend(number_into(c, spare, operands.1));
+    }
+    let a = rng.pick(&[other, other, b, c]);
+    group.push(if divides {
+        Instruction::Div { a, b, c }
+    } else {
+        Instruction::Mul { a, b, c }
+    });
+    if group.len() > room {
+        return Vec::new();
+    }
+    let locations: Vec<usize> = (0..draft.list.locations)
+        .filter(|e| allows(draft.own[*e], SUM) || allows(draft.own[*e], WRITE))
+        .collect();
+    if !locations.is_empty() && group.len() + 2 <= room {
+        let location = rng.pick(&locations);
+        let sums = draft.own[location] == SUM || rng.percent(25);
+        group.push(Instruction::Const {
+            a: spare,
+            value: location as u16,
+        });
+        group.push(if sums {
+            Instruction::Sum { a: spare, b: a }
+        } else {
+            Instruction::Store { a: spare, b: a }
+        });
+    }
+    group
+}
+
+/// #108: the result of a quotient or of a product, or its fault.
+pub fn result_of(divides: bool, (b, c): (u32, u32)) -> Result<u32, u8> {
+    if divides {
+        quotient(b, c)
+    } else {
+        product(b, c)
+    }
+}
+
+/// #108: the operands of a quotient or of a product: mostly such whose exact result is a half, or beside one,
+/// or next to where fault 4 begins; some divisors are 0.
+pub fn random_operands(rng: &mut Rng, divides: bool) -> (u32, u32) {
+    let odd = |rng: &mut Rng| 1 + 2 * rng.below(16) as u64;
+    // Twice the least exact result that faults.
+    let limit = 2 * u32::MAX as u64 + 1;
+    let mut beside = rng.percent(50);
+    let (b, c) = match (rng.below(10), divides) {
+        // 1000 × b / c is an odd number times 62.5, 12.5, 2.5 or 0.5.
+        (0..=3, true) => {
+            let times = rng.between(1, 30) as u64;
+            let unit = rng.pick(&[16, 80, 400, 2000]);
+            (times * odd(rng), times * unit)
+        }
+        // b × c is an odd number times 500.
+        (0..=3, false) => {
+            let part = rng.pick(&[1, 4, 20, 100, 500]);
+            (part * odd(rng), 500 / part * odd(rng))
+        }
+        // The largest b without a fault, or the next; their results are close where c is about 1000.
+        (kind @ 4..=6, true) => {
+            beside = false;
+            let c = rng.between([1, 600, 900][kind - 4], 1000) as u64;
+            (limit * c / 2000 + rng.below(2) as u64, c)
+        }
+        (kind @ 4..=6, false) => {
+            beside = false;
+            let c = rng.between(1000, [65535, 1500, 1100][kind - 4]) as u64;
+            (limit * 500 / c + rng.below(2) as u64, c)
+        }
+        (7, true) if rng.percent(30) => (0, 0),
+        (7, true) => (random_number(rng), 0),
+        // A little above 2^63: its double is a little above 2^64.
+        (7, false) => {
+            let b = (1 << 31) + 1 + rng.below((1 << 31) - 1) as u64;
+            (b, (1 << 63) / b + 1)
+        }
+        _ => (random_number(rng), random_number(rng)),
+    };
+    let mut operands = [b, c].map(|number| number.min(u32::MAX as u64) as u32);
+    if beside {
+        let operand = &mut operands[rng.below(2)];
+        *operand = if rng.percent(50) {
+            operand.saturating_sub(1)
+        } else {
+            operand.saturating_add(1)
+        };
+    }
+    (operands[0], operands[1])
+}
+
+/// Small, or a large one of 16 or of 32 bits.
+fn random_number(rng: &mut Rng) -> u64 {
+    match rng.below(5) {
+        0 => rng.below(4) as u64,
+        1 => rng.below(5000) as u64,
+        2 => rng.below(65536) as u64,
+        3 => rng.next_u64() as u32 as u64,
+        _ => u32::MAX as u64 - rng.below(2000) as u64,
+    }
+}
+
+/// The instructions behind which this register holds the number; they may use the spare one.
+fn number_into(register: u8, spare: u8, number: u32) -> Vec<Instruction> {
+    let constant = |a, value: u32| Instruction::Const {
+        a,
+        value: value as u16,
+    };
+    if number <= 65535 {
+        return vec![constant(register, number)];
+    }
+    let below = number.wrapping_neg();
+    if below <= 65536 {
+        // 0 - 1 - what is left
+        return vec![
+            constant(spare, 0),
+            constant(register, 1),
+            Instruction::Sub {
+                a: spare,
+                b: spare,
+                c: register,
+            },
+            constant(register, below - 1),
+            Instruction::Sub {
+                a: register,
+                b: spare,
+                c: register,
+            },
+        ];
+    }
+    // (1000 × (number / 65535) / 1) × 65535 / 1000, and what is left
+    vec![
+        constant(register, number / 65535),
+        constant(spare, 1),
+        Instruction::Div {
+            a: register,
+            b: register,
+            c: spare,
+        },
+        constant(spare, 65535),
+        Instruction::Mul {
+            a: register,
+            b: register,
+            c: spare,
+        },
+        constant(spare, number % 65535),
+        Instruction::Add {
+            a: register,
+            b: register,
+            c: spare,
+        },
+    ]
+}
+
+/// Any other instruction but a spawn; a load, store, wait or sum mostly behind the constant for its entry.
 fn other_group(rng: &mut Rng, draft: &Draft) -> Vec<Instruction> {
     let shape = draft.shape;
     let a = rng.below(4) as u8;
@@ -726,7 +913,7 @@ fn altered_at(rng: &mut Rng, bytes: &[u8], place: usize) -> Vec<u8> {
         altered[place] = match rng.below(4) {
             0 => bytes[place].wrapping_add(1),
             1 => bytes[place].wrapping_sub(1),
-            2 => rng.below(12) as u8,
+            2 => rng.below(14) as u8,
             _ => rng.byte(),
         };
     }
@@ -876,7 +1063,7 @@ fn bad_instruction(rng: &mut Rng, list: &TaskList, body: usize, pc: usize) -> [u
     let (code, children) = rng.pick(&[(7, 0), (9, 1), (9, 16)]);
     match rng.below(7) {
         // Another code.
-        0 => [byte_from(rng, 11), registers[0], 0, 0],
+        0 => [byte_from(rng, 13), registers[0], 0, 0],
         // A register above 3.
         1 => {
             let (code, listed) = rng.pick(&[
@@ -889,6 +1076,8 @@ fn bad_instruction(rng: &mut Rng, list: &TaskList, body: usize, pc: usize) -> [u
                 (6, 1),
                 (8, 1),
                 (10, 2),
+                (11, 3),
+                (12, 3),
             ]);
             let mut bad = [code, 0, 0, 0];
             for i in 0..listed {
@@ -973,7 +1162,7 @@ pub fn list_case(rng: &mut Rng) -> Vec<u8> {
             let count = rng.below(4) as u8;
             bytes.push(count);
             for _ in 0..rng.below(20) {
-                bytes.push(rng.below(12) as u8);
+                bytes.push(rng.below(14) as u8);
             }
             bytes
         }
@@ -999,11 +1188,13 @@ pub fn hex(bytes: &[u8]) -> String {
 // ---------------------------------------------------------------------------------------------
 // Libraries and orders of calls
 
-/// Numbers for `count` entries: mostly small, so that some are entry numbers.
+/// Numbers for `count` entries: mostly small, so that some are entry numbers; some about one in thousandths
+/// (#108).
 pub fn random_library(rng: &mut Rng, count: usize) -> Vec<u32> {
     let mut library = Vec::new();
     for _ in 0..count {
-        library.push(match rng.below(8) {
+        library.push(match rng.below(9) {
+            3 => rng.pick(&[499, 500, 999, 1000, 1001, 2000, 4_294_967, 4_294_968]),
             0 => rng.next_u64() as u32,
             1 => u32::MAX - rng.below(2) as u32,
             2 => 0,

@@ -41,7 +41,7 @@ pub struct Line {
 }
 
 /// "An instruction is one of nine forms, each with its own fields"; #104: "New code 9, fan"; #107: "New
-/// code 10".
+/// code 10"; #108: codes 11 and 12.
 #[derive(Clone, Copy, Debug, PartialEq, Eq)]
 pub enum Instruction {
     /// "0 const: Ra := b + 256 × c"
@@ -70,6 +70,10 @@ pub enum Instruction {
     },
     /// #107: "New code 10: entry number Ra := entry + Rb modulo 2^32"
     Sum { a: u8, b: u8 },
+    /// #108: "Code 11: Ra := Rb × Rc / 1000."
+    Mul { a: u8, b: u8, c: u8 },
+    /// #108: "Code 12: Ra := 1000 × Rb / Rc."
+    Div { a: u8, b: u8, c: u8 },
 }
 
 /// The bytes of a list and how many of them are taken.
@@ -250,6 +254,8 @@ fn decode_instruction(field: [u8; 4]) -> Option<Instruction> {
             children: c,
         }),
         10 if register(a) && register(b) && c == 0 => Some(Instruction::Sum { a, b }),
+        11 if register(a) && register(b) && register(c) => Some(Instruction::Mul { a, b, c }),
+        12 if register(a) && register(b) && register(c) => Some(Instruction::Div { a, b, c }),
         _ => None,
     }
 }
@@ -356,6 +362,8 @@ pub fn encode_instruction(instruction: &Instruction) -> [u8; 4] {
             children,
         } => [9, body, footprint, children],
         Instruction::Sum { a, b } => [10, a, b, 0],
+        Instruction::Mul { a, b, c } => [11, a, b, c],
+        Instruction::Div { a, b, c } => [12, a, b, c],
     }
 }
 

@@ -12,7 +12,7 @@ use crate::run::{open, TODAY};
 
 /// The stored file of cases is made with these.
 pub const STORED_SEED: u64 = 1;
-pub const STORED_COUNT: usize = 52;
+pub const STORED_COUNT: usize = 40;
 
 /// P's library.
 pub const LIBRARY_P: [u32; 2] = [5, 7];
@@ -47,6 +47,14 @@ pub fn sum_line(value: u8) -> Line {
 
 pub fn sum(a: u8, b: u8) -> Instruction {
     Instruction::Sum { a, b }
+}
+
+pub fn mul(a: u8, b: u8, c: u8) -> Instruction {
+    Instruction::Mul { a, b, c }
+}
+
+pub fn div(a: u8, b: u8, c: u8) -> Instruction {
+    Instruction::Div { a, b, c }
 }
 
 /// Lines by R0, which is a fan's child's number.
@@ -111,6 +119,7 @@ pub fn named_cases() -> Vec<Case> {
     cases.extend(trees());
     cases.extend(fans());
     cases.extend(sums());
+    cases.extend(thousandths());
     cases.extend(refused_lists());
     cases
 }
@@ -1092,6 +1101,166 @@ pub fn lines_of_each_mode() -> Vec<u8> {
     list(2, &footprints, &bodies)
 }
 
+/// #108
+fn thousandths() -> Vec<Case> {
+    const MAX: u32 = u32::MAX;
+    let mut cases = Vec::new();
+    // One Rc for several Rb, each in a job of its own: by the hand run's calls where Rc is odd, else by its
+    // result alone.
+    let products: [(u16, &[u32]); 6] = [
+        // Halves, and beside them; a zero Rc is no fault.
+        (500, &[0, 1, 2, 3, 5, 999, MAX]),
+        (125, &[3, 4, 11, 12, 13]),
+        (0, &[0, MAX]),
+        // Each number is kept.
+        (1000, &[1, MAX]),
+        // 4294967294.618 and 4294967295.619; then 4294967295.499 and 4294967296.652: the rounded result
+        // decides.
+        (1001, &[499, 500, 4_290_676_618, 4_290_676_619]),
+        (1153, &[3_725_036_683, 3_725_036_684]),
+    ];
+    let quotients: [(u16, &[u32]); 9] = [
+        (2000, &[0, 1, 2, 3, 5, 999, MAX]),
+        (16, &[1, 2, 3, 5]),
+        (3, &[1, 2, 4, 5]),
+        (2001, &[1, 2]),
+        (0, &[0, 1, MAX]),
+        (1, &[0, 4_294_967, 4_294_968]),
+        (1000, &[MAX]),
+        // 4294967295.499 and, with the next Rc, 4294967295.501.
+        (511, &[2_194_728_288, 2_194_728_289]),
+        (978, &[4_200_478_014, 4_200_478_015]),
+    ];
+    for (c, numbers) in products {
+        cases.push(rates(mul(1, 1, 2), c, numbers, c % 2 == 1));
+    }
+    for (c, numbers) in quotients {
+        cases.push(rates(div(1, 1, 2), c, numbers, c % 2 == 1));
+    }
+    // Two numbers of the library: 4294967295.5; then 2^63 and a little more, whose double is a little more
+    // than 2^64.
+    for (b, c) in [
+        (3_734_754_170, 1150),
+        (65536, 65536),
+        (3_037_000_500, 3_037_000_500),
+        (MAX, MAX),
+    ] {
+        cases.push(case(&rate_of_two(mul(3, 1, 2)), &[b, c], ""));
+    }
+    // The last is 12.5.
+    for (b, c) in [
+        (MAX, MAX),
+        (MAX, MAX - 1),
+        (2_147_483_648, MAX),
+        (2_147_484, MAX),
+        (2_147_483, MAX),
+        (53_687_091, MAX - 15),
+    ] {
+        cases.push(case(&rate_of_two(div(3, 1, 2)), &[b, c], ""));
+    }
+    // A result in the place of an operand, one operand for both.
+    let bytes = list(
+        1,
+        &[],
+        &[&[
+            Instruction::Load { a: 1, b: 0 },
+            constant(2, 7),
+            mul(1, 1, 1),
+            div(2, 1, 2),
+            div(3, 2, 2),
+            mul(2, 3, 2),
+            div(0, 0, 3),
+        ]],
+    );
+    cases.push(whole(&bytes, &[4500]));
+    cases.extend(faults_of_rates());
+    cases
+}
+
+/// #108: a fan of jobs that each make of their entry what this does with R1, which is the entry, and R2.
+pub fn fan_of_rates(instruction: Instruction, c: u16, entries: usize) -> Vec<u8> {
+    list(
+        entries,
+        &[&[WRITE_BY_CHILD]],
+        &[
+            &[constant(2, c), fan(1, 0, entries as u8)],
+            &[
+                Instruction::Load { a: 1, b: 0 },
+                instruction,
+                Instruction::Store { a: 0, b: 1 },
+            ],
+        ],
+    )
+}
+
+fn rates(instruction: Instruction, c: u16, numbers: &[u32], with_calls: bool) -> Case {
+    let bytes = fan_of_rates(instruction, c, numbers.len());
+    if with_calls {
+        whole(&bytes, numbers)
+    } else {
+        case(&bytes, numbers, "")
+    }
+}
+
+/// #108: R1 and R2 are the entries 0 and 1; what this leaves in R3 is stored to entry 0.
+pub fn rate_of_two(instruction: Instruction) -> Vec<u8> {
+    list(
+        2,
+        &[],
+        &[&[
+            Instruction::Load { a: 1, b: 0 },
+            constant(2, 1),
+            Instruction::Load { a: 2, b: 2 },
+            instruction,
+            Instruction::Store { a: 0, b: 3 },
+        ]],
+    )
+}
+
+/// #108: job 0 makes a job that writes both entries, does this, and makes another. Its R1 is 70, R2 is entry
+/// 0, R3 is 9.
+pub fn rate_between_spawns(instruction: Instruction) -> Vec<u8> {
+    list(
+        2,
+        &[&[write_line(0), write_line(1)]],
+        &[
+            &[
+                constant(1, 70),
+                Instruction::Load { a: 2, b: 0 },
+                constant(3, 9),
+                spawn(1, 0),
+                instruction,
+                spawn(1, 0),
+            ],
+            &[Instruction::Store { a: 0, b: 3 }],
+        ],
+    )
+}
+
+/// "A fault ends the job as the earlier ones do": no place or register changes, the jobs made before it
+/// stay, none is made behind it; with a writer of all entries ahead, since none of them waits.
+fn faults_of_rates() -> Vec<Case> {
+    let mut cases = Vec::new();
+    for (instruction, entry) in [
+        (mul(3, 1, 2), 1500),
+        (mul(3, 2, 2), u32::MAX),
+        (div(3, 2, 1), 1500),
+        (div(3, 2, 1), u32::MAX),
+        (div(3, 1, 2), 0),
+        (div(3, 0, 2), 0),
+        // Registers that hold the number of an entry.
+        (mul(0, 0, 0), 1500),
+        (div(0, 0, 1), 1500),
+    ] {
+        cases.push(case(
+            &rate_between_spawns(instruction),
+            &[entry, 7],
+            "start 0, step 0, step 0, step 0, step 0, step 0, step 0, end 0, start 1, step 1, end 1, start 2",
+        ));
+    }
+    cases
+}
+
 fn refused_lists() -> Vec<Case> {
     let head = |locations| vec![0x4A, 0x48, locations, 0, 1, 0x4A, 0x42, 0];
     let mut cases = vec![
@@ -1167,7 +1336,15 @@ fn refused_lists() -> Vec<Case> {
         [10, 4, 0, 0],
         [10, 0, 4, 0],
         [10, 0, 0, 1],
-        [11, 0, 0, 0],
+        [11, 3, 3, 3],
+        [11, 4, 0, 0],
+        [11, 0, 4, 0],
+        [11, 0, 0, 4],
+        [12, 3, 3, 3],
+        [12, 4, 0, 0],
+        [12, 0, 4, 0],
+        [12, 0, 0, 4],
+        [13, 0, 0, 0],
     ] {
         let bytes = [&[1][..], &instruction].concat();
         cases.push(case(&sheet(&bytes), &LIBRARY_P, ""));

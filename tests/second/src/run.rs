@@ -35,11 +35,12 @@ pub const RECORDS: usize = 128;
 pub const MODES: usize = 64;
 
 /// #105: "a lent table of 12 numbers of 16 bits: start, end, then codes 0 to 9, code 9's per child";
-/// "Later codes lengthen it by one each.": #107's code 10.
-pub const WEIGHTS: usize = 13;
+/// "Later codes lengthen it by one each.": #107's code 10, #108's codes 11 and 12.
+pub const WEIGHTS: usize = 15;
 /// Today's numbers: "start 5, end 2, codes 0 to 8: 1, 1, 1, 1, 3, 4, 1, 8, 1"; #104, of a fan: "The weight
-/// is 8 × c."; #107, of code 10: "the coordinator's weight for it being 4".
-pub const TODAY: [u16; WEIGHTS] = [5, 2, 1, 1, 1, 1, 3, 4, 1, 8, 1, 8, 4];
+/// is 8 × c."; #107, of code 10: "the coordinator's weight for it being 4"; #108: both "weigh 1 with the
+/// coordinator".
+pub const TODAY: [u16; WEIGHTS] = [5, 2, 1, 1, 1, 1, 3, 4, 1, 8, 1, 8, 4, 1, 1];
 
 pub const NEVER_MADE: u8 = 0;
 pub const WAITING: u8 = 1;
@@ -51,6 +52,11 @@ pub const READ: u8 = 1;
 pub const WRITE: u8 = 2;
 /// #107: "Add mode 3, sum"
 pub const SUM: u8 = 3;
+
+/// #108: "Fault 4 is a result above 2^32 − 1"
+pub const TOO_LARGE: u8 = 4;
+/// #108: "fault 5 (...) is a zero Rc"
+pub const ZERO_DIVISOR: u8 = 5;
 
 /// "A record has: state (...), sheet, place, four registers, a mode per entry (...), instructions
 /// done, fault, weight."
@@ -236,7 +242,7 @@ fn count_call(run: &mut Run, task: usize, weight: u64) {
     run.records[task].weight += weight;
 }
 
-/// #105: "start, end, then codes 0 to 9, code 9's per child"; then #107's code 10.
+/// #105: "start, end, then codes 0 to 9, code 9's per child"; then the later codes in turn.
 fn start_weight(run: &Run) -> u64 {
     run.table[0] as u64
 }
@@ -380,7 +386,7 @@ pub fn entry_concerned(run: &Run, task: usize, instruction: &Instruction) -> Vec
 
 /// "Load needs reading, store needs writing, wait needs what the job's own mode there allows. Const,
 /// add, sub, less, skip and spawn never wait." #104, of a fan: "in one step that never waits". #107 says
-/// when a sum may go. Only asked when the step has no fault.
+/// when a sum may go; #108's codes have no entry to wait for. Only asked when the step has no fault.
 fn step_may_go(run: &Run, task: usize, instruction: &Instruction) -> bool {
     let registers = run.records[task].registers;
     match instruction {
@@ -403,7 +409,7 @@ enum Use {
 
 /// The fault of a step, 0 if it has none. "1: entry not in the job's footprint (C and above
 /// included). 2: store, or a write line, where its own mode is read." #106: "Fault 3 no longer occurs".
-/// #107 adds faults of sums.
+/// #107 adds faults of sums, #108 faults 4 and 5.
 fn fault_of(run: &Run, task: usize, instruction: &Instruction) -> u8 {
     let registers = run.records[task].registers;
     match instruction {
@@ -419,8 +425,43 @@ fn fault_of(run: &Run, task: usize, instruction: &Instruction) -> u8 {
             children,
             ..
         } => fault_of_fan(run, task, *footprint as usize, *children),
+        Instruction::Mul { b, c, .. } => {
+            let result = product(registers[*b as usize], registers[*c as usize]);
+            result.err().unwrap_or(0)
+        }
+        Instruction::Div { b, c, .. } => {
+            let result = quotient(registers[*b as usize], registers[*c as usize]);
+            result.err().unwrap_or(0)
+        }
         _ => 0,
     }
+}
+
+/// #108: "Code 11: Ra := Rb × Rc / 1000." The result, or its fault.
+pub fn product(b: u32, c: u32) -> Result<u32, u8> {
+    rounded(b as u128 * c as u128, 1000)
+}
+
+/// #108: "Code 12: Ra := 1000 × Rb / Rc."; "fault 5, tested first and in code 12 only, is a zero Rc". The
+/// result, or its fault.
+pub fn quotient(b: u32, c: u32) -> Result<u32, u8> {
+    if c == 0 {
+        return Err(ZERO_DIVISOR);
+    }
+    rounded(1000 * b as u128, c as u128)
+}
+
+/// #108: "Both round to the nearest whole number, halves upward, on the exact value"; "Fault 4 is a result
+/// above 2^32 − 1". The exact value is the whole number `below` and `rest` of `divisor` parts of one.
+fn rounded(dividend: u128, divisor: u128) -> Result<u32, u8> {
+    let below = dividend / divisor;
+    let rest = dividend % divisor;
+    let nearest = if rest < divisor - rest {
+        below
+    } else {
+        below + 1
+    };
+    u32::try_from(nearest).map_err(|_| TOO_LARGE)
 }
 
 /// Faults 1 and 2, in this order, for one entry.
@@ -581,6 +622,14 @@ pub fn step(run: &mut Run, number: u32) -> Result<(), u32> {
         Instruction::Sum { a, b } => {
             let entry = &mut run.memory[value_of(a) as usize];
             *entry = entry.wrapping_add(value_of(b));
+        }
+        Instruction::Mul { a, b, c } => {
+            let result = product(value_of(b), value_of(c));
+            run.records[task].registers[a as usize] = result.expect("a step without a fault");
+        }
+        Instruction::Div { a, b, c } => {
+            let result = quotient(value_of(b), value_of(c));
+            run.records[task].registers[a as usize] = result.expect("a step without a fault");
         }
     }
     run.records[task].pc += 1 + passed_over;

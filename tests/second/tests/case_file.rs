@@ -54,6 +54,15 @@ fn has_sum(case: &Case) -> bool {
     })
 }
 
+fn has_rate(case: &Case) -> bool {
+    has(case, |instruction| {
+        matches!(
+            instruction,
+            Instruction::Mul { .. } | Instruction::Div { .. }
+        )
+    })
+}
+
 #[test]
 fn the_stored_cases_reach_every_answer() {
     let cases = stored_cases(STORED_SEED, STORED_COUNT);
@@ -72,7 +81,7 @@ fn the_stored_cases_reach_every_answer() {
         faults.push(line.split(' ').nth(11).unwrap().parse().unwrap());
     }
     // #106: fault 3 no longer occurs.
-    assert_eq!(distinct(faults), [0, 1, 2]);
+    assert_eq!(distinct(faults), [0, 1, 2, 4, 5]);
     assert!(text.contains("write 4805 4a48"));
     // #104: lists with fans, named ones and random ones.
     let fans = |cases: &[Case]| cases.iter().filter(|case| has_fan(case)).count();
@@ -83,6 +92,10 @@ fn the_stored_cases_reach_every_answer() {
     let sums = |cases: &[Case]| cases.iter().filter(|case| has_sum(case)).count();
     assert!(sums(&cases[..named]) > 20);
     assert!(sums(&cases[named..]) > STORED_COUNT / 6);
+    // #108: lists with products or quotients, likewise.
+    let rates = |cases: &[Case]| cases.iter().filter(|case| has_rate(case)).count();
+    assert!(rates(&cases[..named]) > 20);
+    assert!(rates(&cases[named..]) > STORED_COUNT / 8);
     let is_sum = |place: &&str| place.parse().is_ok_and(|place: u32| place / 256 == 3);
     let queues = text.lines().filter(|line| line.starts_with("queue "));
     let beside = queues.filter(|line| line.split(' ').skip(2).filter(is_sum).count() > 1);

@@ -5,12 +5,13 @@ use second::cases::{doubling_list, fan_tree, library_bytes, table_bytes, EXAMPLE
 use second::coordinator::call;
 use second::list::task_counts;
 use second::named::{
-    children_that_sum, constant, fan, fan_of_strengths, fans_and_spawns, lines_of_each_mode, list,
-    pairs_of_lines, read_line, spawn, starts_behind_reader_and_writer,
-    steps_behind_reader_and_writer, sum, sum_line, sums_that_wrap, three_modes, two_that_sum,
-    write_line, LIBRARY_P, READ_BY_CHILD, SUM_BY_CHILD, WRITE_BY_CHILD,
+    children_that_sum, constant, div, fan, fan_of_rates, fan_of_strengths, fans_and_spawns,
+    lines_of_each_mode, list, mul, pairs_of_lines, rate_between_spawns, rate_of_two, read_line,
+    spawn, starts_behind_reader_and_writer, steps_behind_reader_and_writer, sum, sum_line,
+    sums_that_wrap, three_modes, two_that_sum, write_line, LIBRARY_P, READ_BY_CHILD, SUM_BY_CHILD,
+    WRITE_BY_CHILD,
 };
-use second::run::{may_read, never_made, search, ENDED, STARTED, WAITING};
+use second::run::{may_read, never_made, product, quotient, search, ENDED, STARTED, WAITING};
 use second::*;
 
 /// The marked records of the empty list: C = 1, no footprints, one empty sheet.
@@ -570,7 +571,7 @@ fn check_examples() {
     assert_eq!(check(&skip(1)), Ok(1));
     assert_eq!(check(&skip(2)), Err(5));
     // Three bytes of a bad instruction: not whole.
-    for code in [9, 11] {
+    for code in [9, 13] {
         assert_eq!(
             check(&[0x4A, 0x48, 1, 0, 1, 0x4A, 0x42, 1, code, 0, 0]),
             Err(1)
@@ -1035,14 +1036,14 @@ fn trees_of_fans() {
 }
 
 /// #105: a table in which each number tells its place: start 101, end 102, code k 110 + k.
-const TELLING: [u16; 13] = [
-    101, 102, 110, 111, 112, 113, 114, 115, 116, 117, 118, 119, 120,
+const TELLING: [u16; 15] = [
+    101, 102, 110, 111, 112, 113, 114, 115, 116, 117, 118, 119, 120, 121, 122,
 ];
 
-/// #105: "start, end, then codes 0 to 9, code 9's per child"; then #107's code 10.
+/// #105: "start, end, then codes 0 to 9, code 9's per child"; then the later codes.
 #[test]
 fn each_number_of_a_table() {
-    let cases: [(Instruction, u64); 12] = [
+    let cases: [(Instruction, u64); 15] = [
         (constant(1, 9), 110),
         (Instruction::Add { a: 0, b: 1, c: 2 }, 111),
         (Instruction::Sub { a: 0, b: 1, c: 2 }, 112),
@@ -1055,6 +1056,10 @@ fn each_number_of_a_table() {
         (fan(1, 0, 1), 119),
         (fan(1, 0, 16), 16 * 119),
         (sum(0, 1), 120),
+        (mul(0, 1, 2), 121),
+        // Fault 5: it weighs the same.
+        (div(0, 1, 2), 122),
+        (div(0, 0, 0), 122),
     ];
     for (instruction, weight) in cases {
         let bytes = list(1, &[&[]], &[&[instruction], &[]]);
@@ -1115,7 +1120,7 @@ fn refusals_of_a_table() {
         assert_eq!(hand_run(&EXAMPLE_P, library, table).err(), opened);
         opened
     };
-    for place in 0..13 {
+    for place in 0..15 {
         for (number, expected) in [
             (0, Some(22)),
             (1, None),
@@ -1129,18 +1134,18 @@ fn refusals_of_a_table() {
             assert_eq!(refusal(&LIBRARY_P, &table), expected);
             // 8 before 21 and 22, 21 before 22.
             assert_eq!(refusal(&[5], &table), Some(8));
-            assert_eq!(refusal(&LIBRARY_P, &table[..12]), Some(21));
-            assert_eq!(refusal(&[5], &table[..12]), Some(8));
+            assert_eq!(refusal(&LIBRARY_P, &table[..13]), Some(21));
+            assert_eq!(refusal(&[5], &table[..13]), Some(8));
         }
     }
-    for length in [0, 1, 11, 12, 14, 26] {
+    for length in [0, 1, 11, 12, 13, 14, 16, 30] {
         assert_eq!(refusal(&LIBRARY_P, &vec![1; length]), Some(21));
     }
     assert_eq!(open(&EXAMPLE_P[..53], &[], &[]), Err(1));
     // The empty list too.
     assert_eq!(open(&[], &[5], &[]), Err(21));
-    assert_eq!(open(&[], &[5], &[0; 13]), Err(22));
-    assert_eq!(open(&[], &[], &[0; 13]), Err(8));
+    assert_eq!(open(&[], &[5], &[0; 15]), Err(22));
+    assert_eq!(open(&[], &[], &[0; 15]), Err(8));
 }
 
 /// #105: "over the C boundary the table is bytes, two per number, least first"; 17 stays last.
@@ -1162,7 +1167,10 @@ fn the_table_over_the_c_boundary() {
     let today = table_bytes(&TODAY);
     assert_eq!(
         today,
-        [5, 0, 2, 0, 1, 0, 1, 0, 1, 0, 1, 0, 3, 0, 4, 0, 1, 0, 8, 0, 1, 0, 8, 0, 4, 0]
+        [
+            5, 0, 2, 0, 1, 0, 1, 0, 1, 0, 1, 0, 3, 0, 4, 0, 1, 0, 8, 0, 1, 0, 8, 0, 4, 0, 1, 0, 1,
+            0
+        ]
     );
     assert_eq!(answer(&library, &today, 8), 0);
     let mut table = today.clone();
@@ -1177,7 +1185,7 @@ fn the_table_over_the_c_boundary() {
         (1, 4, 150),
         (255, 255, 150),
     ] {
-        for place in 0..13 {
+        for place in 0..15 {
             table[2 * place] = low;
             table[2 * place + 1] = high;
             assert_eq!(answer(&library, &table, 8), expected);
@@ -1187,9 +1195,9 @@ fn the_table_over_the_c_boundary() {
             table[2 * place..2 * place + 2].copy_from_slice(&today[2 * place..2 * place + 2]);
         }
     }
-    for length in (0..30).filter(|length| *length != 26) {
-        assert_eq!(answer(&library, &[1; 30][..length], 7), 149);
-        assert_eq!(answer(&library[..7], &[1; 30][..length], 7), 136);
+    for length in (0..34).filter(|length| *length != 30) {
+        assert_eq!(answer(&library, &[1; 34][..length], 7), 149);
+        assert_eq!(answer(&library[..7], &[1; 34][..length], 7), 136);
     }
 }
 
@@ -1220,7 +1228,13 @@ fn which_sums_are_good() {
         assert_eq!(with_instruction([10, 3, field, 0]), register);
         let not_listed = if field == 0 { Ok(1) } else { Err(5) };
         assert_eq!(with_instruction([10, 3, 3, field]), not_listed);
-        assert_eq!(with_instruction([11, field, 0, 0]), Err(5));
+        // #108: registers in all three fields.
+        for code in [11, 12] {
+            assert_eq!(with_instruction([code, field, 0, 0]), register);
+            assert_eq!(with_instruction([code, 3, field, 0]), register);
+            assert_eq!(with_instruction([code, 3, 3, field]), register);
+        }
+        assert_eq!(with_instruction([13, field, 0, 0]), Err(5));
     }
     let lines = [sum_line(4), Line { kind: 5, value: 3 }];
     let bytes = list(5, &[&lines], &[&[sum(2, 1)]]);
@@ -1586,4 +1600,232 @@ fn all_orders_of_adding() {
     for kinds in [[4, 4, 4], [4, 0, 4], [4, 1, 4], [0, 4, 1], [4, 4, 0]] {
         assert!(assert_all_orders(&three_modes(kinds), &[5]) > 20);
     }
+}
+
+/// #108: "Both round to the nearest whole number, halves upward, on the exact value"; "Fault 4 is a result
+/// above 2^32 − 1". The largest products and quotients that are no fault, and the least that are one.
+#[test]
+fn products_in_thousandths() {
+    const MAX: u32 = u32::MAX;
+    for (b, c, result) in [
+        (0, 0, Ok(0)),
+        (MAX, 0, Ok(0)),
+        (1, 499, Ok(0)),
+        (1, 500, Ok(1)),
+        (1, 1499, Ok(1)),
+        (3, 500, Ok(2)),
+        (5, 500, Ok(3)),
+        (12, 125, Ok(2)),
+        (11, 125, Ok(1)),
+        (1500, 2500, Ok(3750)),
+        (65536, 65536, Ok(4_294_967)),
+        (MAX, 500, Ok(2_147_483_648)),
+        (MAX, 1000, Ok(MAX)),
+        (MAX, 1001, Err(4)),
+        // 4294967295.499, 4294967295.5, 4294967295.501
+        (3_725_036_683, 1153, Ok(MAX)),
+        (3_734_754_170, 1150, Err(4)),
+        (2_472_635_173, 1737, Err(4)),
+        // 2^32
+        (4_194_304_000, 1024, Err(4)),
+        (3_037_000_500, 3_037_000_500, Err(4)),
+        (MAX, MAX, Err(4)),
+    ] {
+        assert_eq!(product(b, c), result, "{b} x {c}");
+        assert_eq!(product(c, b), result);
+        assert_rate(mul(3, 1, 2), b, c, result);
+    }
+}
+
+/// #108: "fault 5, tested first and in code 12 only, is a zero Rc".
+#[test]
+fn quotients_in_thousandths() {
+    const MAX: u32 = u32::MAX;
+    for (b, c, result) in [
+        (0, 0, Err(5)),
+        (1, 0, Err(5)),
+        (MAX, 0, Err(5)),
+        (0, 1, Ok(0)),
+        (0, MAX, Ok(0)),
+        (1, 1, Ok(1000)),
+        (1, 3, Ok(333)),
+        (2, 3, Ok(667)),
+        (1, 16, Ok(63)),
+        (1, 1999, Ok(1)),
+        (1, 2000, Ok(1)),
+        (1, 2001, Ok(0)),
+        (3, 2000, Ok(2)),
+        (5, 2000, Ok(3)),
+        (MAX, 2000, Ok(2_147_483_648)),
+        (MAX, 1000, Ok(MAX)),
+        (MAX, 999, Err(4)),
+        (MAX, MAX, Ok(1000)),
+        (2_147_483, MAX, Ok(0)),
+        (2_147_484, MAX, Ok(1)),
+        (53_687_091, MAX - 15, Ok(13)),
+        (4_294_967, 1, Ok(4_294_967_000)),
+        (4_294_968, 1, Err(4)),
+        // 4294967295.499, 4294967295.501
+        (2_194_728_288, 511, Ok(MAX)),
+        (4_200_478_015, 978, Err(4)),
+        (MAX, 1, Err(4)),
+    ] {
+        assert_eq!(quotient(b, c), result, "{b} / {c}");
+        assert_rate(div(3, 1, 2), b, c, result);
+    }
+}
+
+/// What a job that does this with R1 and R2 leaves in R3 and stores to entry 0, or its fault.
+fn assert_rate(instruction: Instruction, b: u32, c: u32, result: Result<u32, u8>) {
+    let run = hand_run(&rate_of_two(instruction), &[b, c], &TODAY).unwrap();
+    let job = &run.records[0];
+    assert_eq!(job.registers[..3], [0, b, c]);
+    match result {
+        Ok(result) => {
+            assert_eq!((job.fault, job.pc, job.steps), (0, 5, 5));
+            assert_eq!(
+                (job.registers[3], &run.memory[..]),
+                (result, &[result, c][..])
+            );
+            assert_eq!((run.calls, run.weight), (7, 5 + 3 + 1 + 3 + 1 + 4 + 2));
+        }
+        Err(fault) => {
+            // At the faulting instruction's place.
+            assert_eq!((job.fault, job.pc, job.steps), (fault, 3, 4));
+            assert_eq!((job.registers[3], &run.memory[..]), (0, &[b, c][..]));
+            assert_eq!((run.calls, run.weight), (6, 5 + 3 + 1 + 3 + 1 + 2));
+        }
+    }
+}
+
+/// #108: the result r of n / d is the only whole number with r - 1/2 <= n / d < r + 1/2. For small numbers
+/// all, then those beside the numbers that a half or the largest result is made of.
+#[test]
+fn the_nearest_whole_number() {
+    let is_nearest = |r: u128, n: u128, d: u128| {
+        let (low, high) = (2 * d * r, 2 * d * r + d);
+        low <= 2 * n + d && 2 * n < high
+    };
+    let assert_both = |b: u32, c: u32| {
+        let (wide_b, wide_c) = (b as u128, c as u128);
+        for (result, n, d) in [
+            (product(b, c), wide_b * wide_c, 1000),
+            (quotient(b, c), 1000 * wide_b, wide_c),
+        ] {
+            match result {
+                Ok(r) => assert!(is_nearest(r as u128, n, d), "{n} / {d} is not {r}"),
+                Err(fault) if d == 0 => assert_eq!(fault, 5),
+                // The least result that faults is 2^32.
+                Err(fault) => assert!(fault == 4 && 2 * n >= ((1 << 33) - 1) * d, "{n} / {d}"),
+            }
+        }
+    };
+    for b in 0..260 {
+        for c in 0..5000 {
+            assert_both(b, c);
+        }
+    }
+    let numbers: Vec<u32> = [
+        0u64,
+        16,
+        125,
+        500,
+        511,
+        978,
+        1000,
+        1150,
+        1153,
+        2000,
+        65536,
+        4_294_967,
+        2_147_483_648,
+        3_725_036_683,
+        3_734_754_170,
+        4_200_478_015,
+        1 << 32,
+    ]
+    .iter()
+    .flat_map(|number| number.saturating_sub(3)..number + 3)
+    .filter_map(|number| u32::try_from(number).ok())
+    .collect();
+    for b in &numbers {
+        for c in &numbers {
+            assert_both(*b, *c);
+        }
+    }
+}
+
+/// #108: a result may stand in the place of an operand, and one register may be both.
+#[test]
+fn registers_of_a_rate() {
+    for (instruction, registers) in [
+        (mul(1, 1, 2), [0, 14, 2000, 0]),
+        (mul(2, 1, 2), [0, 7, 14, 0]),
+        (mul(2, 2, 2), [0, 7, 4000, 0]),
+        (div(1, 1, 2), [0, 4, 2000, 0]),
+        (div(2, 1, 2), [0, 7, 4, 0]),
+        (div(1, 2, 1), [0, 285_714, 2000, 0]),
+        (div(3, 2, 2), [0, 7, 2000, 1000]),
+    ] {
+        let body = [constant(1, 7), constant(2, 2000), instruction];
+        let run = hand_run(&list(1, &[], &[&body]), &[5], &TODAY).unwrap();
+        assert_eq!(run.records[0].registers, registers, "{instruction:?}");
+    }
+}
+
+/// #108: "A fault ends the job as the earlier ones do, and the hand run meets the same fault." A step with or
+/// without one waits for nobody: job 1 writes all entries ahead of it.
+#[test]
+fn a_rate_between_spawns() {
+    for (instruction, entry, r3, fault) in [
+        (mul(3, 1, 2), 1500, 105, 0),
+        (mul(3, 2, 2), u32::MAX, 9, 4),
+        (div(3, 2, 1), 1500, 21_429, 0),
+        (div(3, 2, 1), u32::MAX, 9, 4),
+        (div(3, 1, 2), 0, 9, 5),
+        (div(3, 0, 2), 0, 9, 5),
+        (mul(0, 0, 0), 1500, 9, 0),
+        (div(0, 0, 1), 1500, 9, 0),
+    ] {
+        let bytes = rate_between_spawns(instruction);
+        assert_eq!(check(&bytes), Ok(3));
+        let mut run = open(&bytes, &[entry, 7], &TODAY).unwrap();
+        start_and_step(&mut run, 0, 4);
+        let before = run.clone();
+        calls(&mut run, &[(1, 0, 0)]);
+        let job = record(&run, 0).unwrap();
+        assert_eq!((job.fault, job.registers), (fault, [0, 70, entry, r3]));
+        assert_eq!((job.pc, job.steps), (if fault == 0 { 5 } else { 4 }, 5));
+        assert_eq!((run.calls, run.weight), (6, before.weight + 1));
+        assert_eq!((&run.memory, &run.order), (&before.memory, &before.order));
+        assert_eq!(run.records[1..], before.records[1..]);
+        if fault == 0 {
+            calls(&mut run, &[(2, 0, 15), (1, 0, 0)]);
+            assert_eq!(run.order, [1, 2, 0]);
+        } else {
+            calls(&mut run, &[(1, 0, 14)]);
+            assert_eq!(run.records[2], never_made());
+        }
+        calls(&mut run, &[(2, 0, 0), (0, 1, 0), (1, 1, 0), (2, 1, 0)]);
+        if fault == 0 {
+            calls(&mut run, &[(0, 2, 0), (1, 2, 0), (2, 2, 0)]);
+        }
+        assert_eq!(run, hand_run(&bytes, &[entry, 7], &TODAY).unwrap());
+        assert_eq!(run.memory, [r3, 7]);
+        assert!(assert_all_orders(&bytes, &[entry, 7]) > 10);
+    }
+}
+
+/// #108: each child of a fan by itself: a fault of one leaves the others alone.
+#[test]
+fn a_fan_of_rates() {
+    let library = [1, u32::MAX, 5, 4_294_968, 0];
+    let bytes = fan_of_rates(div(1, 1, 2), 1, 5);
+    let run = hand_run(&bytes, &library, &TODAY).unwrap();
+    assert_eq!(run.memory, [1000, u32::MAX, 5000, 4_294_968, 0]);
+    let faults: Vec<u8> = run.records[..6].iter().map(|job| job.fault).collect();
+    assert_eq!(faults, [0, 0, 4, 0, 4, 0]);
+    let run = hand_run(&fan_of_rates(div(1, 1, 2), 0, 5), &library, &TODAY).unwrap();
+    assert_eq!(run.memory, library);
+    assert!(run.records[1..6].iter().all(|job| job.fault == 5));
 }

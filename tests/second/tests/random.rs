@@ -50,7 +50,7 @@ struct Met {
     start_refusals: [u64; 21],
     step_refusals: [u64; 21],
     end_refusals: [u64; 21],
-    faults: [u64; 3],
+    faults: [u64; 6],
     /// By the fault of the step, 0 where it made its children.
     fans: [u64; 3],
     /// #107: sums by the fault of the step; then those without a fault by a writer, by a job of mode sum, and
@@ -60,8 +60,59 @@ struct Met {
     /// Waits that passed with sums ahead, and steps of a writer that were held by sums alone.
     waits_beside: u64,
     held_by_sums: u64,
+    /// #108: products, then quotients.
+    rates: [Rates; 2],
     most_jobs: u64,
     most_in_order: usize,
+}
+
+/// What the steps of code 11, or of code 12, met.
+#[derive(Debug, Default)]
+struct Rates {
+    /// Without a fault: exact results, those rounded down, halves, others rounded up.
+    exact: u64,
+    down: u64,
+    halves: u64,
+    up: u64,
+    /// The largest result: from below, and from above (4294967295 and less than a half).
+    largest: [u64; 2],
+    /// Results above 2^32.
+    too_large: u64,
+    /// Results of 2^32: from below, and from above.
+    just_too_large: [u64; 2],
+    /// Zero divisors, and those under a zero.
+    zero: u64,
+    zero_of_zero: u64,
+    /// By a job with another ahead of it in the order.
+    behind: u64,
+}
+
+impl Rates {
+    /// The exact value is n / d.
+    fn count(&mut self, n: u128, d: u128, fault: u8) {
+        if d == 0 {
+            assert_eq!(fault, 5);
+            self.zero += 1;
+            self.zero_of_zero += (n == 0) as u64;
+            return;
+        }
+        let (whole, rest) = (n / d, n % d);
+        let from_above = (2 * rest < d) as usize;
+        let result = whole + 1 - from_above as u128;
+        assert_eq!(fault, if result >> 32 == 0 { 0 } else { 4 });
+        self.too_large += (result > 1 << 32) as u64;
+        self.just_too_large[from_above] += (result == 1 << 32) as u64;
+        self.largest[from_above] += (result == (1 << 32) - 1 && rest != 0) as u64;
+        if fault == 0 {
+            let kinds = match (rest, from_above) {
+                (0, _) => &mut self.exact,
+                (_, 1) => &mut self.down,
+                _ if 2 * rest == d => &mut self.halves,
+                _ => &mut self.up,
+            };
+            *kinds += 1;
+        }
+    }
 }
 
 /// The instruction of the job's next step, and the entry that it concerns with the modes of the jobs ahead
@@ -84,6 +135,24 @@ fn next_step(run: &Run, kind: u8, task: u32) -> Option<(Instruction, Option<(usi
 }
 
 impl Met {
+    /// #108: what a product or quotient met, by the registers before it.
+    fn count_rate(
+        &mut self,
+        run: &Run,
+        task: usize,
+        registers: [u32; 4],
+        instruction: Instruction,
+    ) {
+        let value = |register: u8| registers[register as usize] as u128;
+        let (rates, n, d) = match instruction {
+            Instruction::Mul { b, c, .. } => (&mut self.rates[0], value(b) * value(c), 1000),
+            Instruction::Div { b, c, .. } => (&mut self.rates[1], 1000 * value(b), value(c)),
+            _ => return,
+        };
+        rates.count(n, d, run.records[task].fault);
+        rates.behind += (run.order[0] != task) as u64;
+    }
+
     /// What this step met, by the answer.
     fn count_step(
         &mut self,
@@ -133,8 +202,12 @@ fn random_order(rng: &mut Rng, bytes: &[u8], library: &[u32], met: &mut Met) {
     while !run.order.is_empty() {
         let (kind, task) = next_call(rng, strategy, &run, last, any_percent);
         let stepped = next_step(&run, kind, task);
+        let registers = run.records.get(task as usize).map(|job| job.registers);
         let answer = call(&mut run, kind, task);
         if let Some((instruction, entry)) = stepped {
+            if let (Some(registers), Ok(())) = (registers, answer) {
+                met.count_rate(&run, task as usize, registers, instruction);
+            }
             met.count_step(&run, task, instruction, entry, answer);
         }
         match answer {
@@ -196,8 +269,21 @@ fn demand_3_on_random_lists() {
         "sums {:?}, by a writer, by a sum, beside others {:?}; waits beside {}, held by sums {}",
         met.sums, met.summed, met.waits_beside, met.held_by_sums
     );
-    for fault in 0..3 {
+    println!("products {:?}", met.rates[0]);
+    println!("quotients {:?}", met.rates[1]);
+    // #106: fault 3 no longer occurs.
+    for fault in [0, 1, 2, 4, 5] {
         assert!(met.faults[fault] > 100);
+    }
+    assert_eq!(met.faults[3], 0);
+    for rates in &met.rates {
+        assert!(rates.exact > 500 && rates.down > 100 && rates.halves > 100 && rates.up > 100);
+        assert!(rates.largest.iter().all(|count| *count > 20));
+        assert!(rates.just_too_large.iter().all(|count| *count > 10));
+        assert!(rates.too_large > 20 && rates.behind > 100);
+    }
+    assert!(met.rates[1].zero > 100 && met.rates[1].zero_of_zero > 20);
+    for fault in 0..3 {
         assert!(met.fans[fault] > 20);
         assert!(met.sums[fault] > 100);
         assert!(met.summed[fault] > 500);
@@ -518,6 +604,36 @@ fn sums_are_reached() {
     assert!(bad.iter().all(|count| *count > 5));
 }
 
+/// #108: products and quotients are among the accepted lists, in most shapes of them. Damaged ones give 5.
+#[test]
+fn rates_are_reached() {
+    let (mut products, mut quotients, mut lists) = (0, 0, 0);
+    for seed in 0..2000 {
+        let list = random_list(&mut Rng::new(140_000 + seed));
+        let mut some = false;
+        for instruction in list.bodies.iter().flatten() {
+            products += matches!(instruction, Instruction::Mul { .. }) as u64;
+            quotients += matches!(instruction, Instruction::Div { .. }) as u64;
+            some |= matches!(
+                instruction,
+                Instruction::Mul { .. } | Instruction::Div { .. }
+            );
+        }
+        lists += some as u64;
+    }
+    println!("{products} products and {quotients} quotients in {lists} of 2000 lists");
+    assert!(products > 1000 && quotients > 1000 && lists > 500);
+    let mut bad = [0u64; 3];
+    for seed in 0..4000 {
+        let bytes = damaged_list(&mut Rng::new(150_000 + seed), 5);
+        if let [.., code @ 11..=13, _, _, _] = bytes[..] {
+            bad[code as usize - 11] += 1;
+        }
+    }
+    println!("bad instructions of codes 11 to 13 {bad:?}");
+    assert!(bad.iter().all(|count| *count > 5));
+}
+
 /// #104: damaged fans are among the lists that give 5: of no child, of 17, of more.
 #[test]
 fn damaged_fans_are_reached() {
@@ -678,9 +794,10 @@ fn bad_tables() {
         let bytes = accepted_file(&mut rng);
         let library = fitting_library(&mut rng, &bytes);
         let table = bad_table(&mut rng);
-        // #107: the table of twelve numbers, today's too, is too short now.
-        let length = rng.pick(&[0, 1, 11, 12, 14, 15, 26]);
+        // The tables before #107 and before #108, today's too, are too short now.
+        let length = rng.pick(&[0, 1, 12, 13, 14, 16, 30]);
         assert_eq!(open(&bytes, &library, &TODAY[..12]), Err(21));
+        assert_eq!(open(&bytes, &library, &TODAY[..13]), Err(21));
         let other = [&table[..], &table].concat()[..length].to_vec();
         for (library, table, refusal) in [
             (&library[..], &table[..], 22),

@@ -162,7 +162,7 @@ fn take_placed(said: &mut Text, line: usize, left: &mut Words) -> Result<(), Str
 }
 
 /// "An instruction is one of nine forms, each with its own fields; fields not listed are 0." Request 104 adds the fan,
-/// request 107 the sum.
+/// request 107 the sum, request 108 products and quotients in thousandths.
 fn take_instruction(left: &mut Words) -> Result<Instruction, String> {
     match left.next() {
         "const" => {
@@ -214,6 +214,21 @@ fn take_instruction(left: &mut Words) -> Result<Instruction, String> {
             let place = left.register()?;
             left.expect("+")?;
             Ok([10, place, left.register()?, 0])
+        }
+        "mul" => {
+            let product = take_three(left, 11, "*")?;
+            left.expect("/")?;
+            left.expect("1000")?;
+            Ok(product)
+        }
+        "div" => {
+            let target = left.register()?;
+            left.expect(":=")?;
+            left.expect("1000")?;
+            left.expect("*")?;
+            let first = left.register()?;
+            left.expect("/")?;
+            Ok([12, target, first, left.register()?])
         }
         "" => Err("the line ends where an instruction is wanted".to_string()),
         word => Err(format!("`{word}` is no instruction")),

@@ -51,6 +51,10 @@ fn every_instruction() {
     );
     assert_eq!(bytes_of("sum entry R1 + R2"), [10, 1, 2, 0]);
     assert_eq!(bytes_of("0: sum entry R3+R0"), [10, 3, 0, 0]);
+    assert_eq!(bytes_of("mul R1 := R2 * R3 / 1000"), [11, 1, 2, 3]);
+    assert_eq!(bytes_of("0: mul R0:=R3*R3/1000"), [11, 0, 3, 3]);
+    assert_eq!(bytes_of("div R1 := 1000 * R2 / R3"), [12, 1, 2, 3]);
+    assert_eq!(bytes_of("0: div R3:=1000*R0/R0"), [12, 3, 0, 0]);
 }
 
 #[test]
@@ -89,6 +93,55 @@ fn sums() {
     assert_eq!(
         of_line("sum entry R1 + R2 + R3"),
         ["5: `+` stands where the line ends"]
+    );
+}
+
+/// Request 108
+#[test]
+fn thousandths() {
+    assert_eq!(
+        of_line("mul R4 := R1 * R2 / 1000"),
+        ["5: register R4: registers are R0 to R3"]
+    );
+    assert_eq!(
+        of_line("mul R1 := R2 * 3 / 1000"),
+        ["5: register 3: registers are R0 to R3"]
+    );
+    assert_eq!(
+        of_line("mul R1 := R2 * R3"),
+        ["5: the line ends where `/` is wanted"]
+    );
+    assert_eq!(
+        of_line("mul R1 := R2 / R3"),
+        ["5: `/` stands where `*` is wanted"]
+    );
+    assert_eq!(
+        of_line("mul R1 := R2 * R3 / 100"),
+        ["5: `100` stands where `1000` is wanted"]
+    );
+    assert_eq!(
+        of_line("mul R1 := R2 * R3 / 1000 / 1000"),
+        ["5: `/` stands where the line ends"]
+    );
+    assert_eq!(
+        of_line("div R1 := R2 / R3"),
+        ["5: `R2` stands where `1000` is wanted"]
+    );
+    assert_eq!(
+        of_line("div R1 := 1000 * R2 / R5"),
+        ["5: register R5: registers are R0 to R3"]
+    );
+    assert_eq!(
+        of_line("div R1 := 1000 * R2 * R3"),
+        ["5: `*` stands where `/` is wanted"]
+    );
+    assert_eq!(
+        of_line("div R1 := 1000 * R2"),
+        ["5: the line ends where `/` is wanted"]
+    );
+    assert_eq!(
+        of_line("div R1 := 1000 * R2 / R3 / 1000"),
+        ["5: `/` stands where the line ends"]
     );
 }
 

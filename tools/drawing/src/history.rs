@@ -114,6 +114,8 @@ fn name(instruction: &Instruction) -> &'static str {
         Instruction::Wait { .. } => "wait",
         Instruction::Fan { .. } => "fan",
         Instruction::Sum { .. } => "sum",
+        Instruction::Mul { .. } => "mul",
+        Instruction::Div { .. } => "div",
     }
 }
 
@@ -307,6 +309,27 @@ mod tests {
             .map(|event| (event.word, event.answer))
             .collect();
         assert_eq!(refused, [("step", 14), ("start", 10)]);
+    }
+
+    /// One rate is too large, one has no divisor yet; the others are worked out.
+    #[test]
+    fn faults_of_rates() {
+        let (jobs, library, calls) = example!("rates");
+        let history = follow(jobs, library, calls).unwrap();
+        let words = |word: &str| -> Vec<(usize, u8)> {
+            history
+                .events
+                .iter()
+                .filter(|event| event.word == word && event.answer == 0)
+                .map(|event| (event.job, event.fault))
+                .collect()
+        };
+        assert_eq!(words("div"), [(3, 4), (4, 5), (2, 0), (1, 0)]);
+        assert_eq!(words("mul"), [(2, 0), (1, 0)]);
+        assert_eq!(history.run.memory[..3], [638, 340, 4_000_000_000]);
+        let events = history.events.iter();
+        let holds: Vec<Held> = events.filter_map(|event| event.held).collect();
+        assert_eq!(holds, [held(1, 5, SUM); 2]);
     }
 
     /// A fan makes several jobs at one call; one that faults makes none.

@@ -22,9 +22,10 @@ use Rattle.semantics.specs.Plan.{unless-fault, plan-load, plan-store, pl
 use Rattle.semantics.specs.Call.{Call, hold, admit, settle, among, decide, edited, written, splice, stays, places, changes, apply, taken, call, after, after-all}
 use Rattle.semantics.specs.Search.{search-from, search, hold-number}
 use Rattle.semantics.specs.Sequential.{start-of, step-of, end-of, run-each, step-through, steps-through, enough, run-whole, sequential}
+use Rattle.semantics.specs.Isolation.{Lone, first-record, alone, hand-run, inside, kept}
 use Rattle.semantics.specs.Operations.{with-weights, with-list, open-asked, sequential-asked, queue-places}
 use Rattle.semantics.specs.Answers.{outcome-number}
-use Rattle.semantics.specs.Case.{Case, by-hand, by-hand-under, by-calls, tasks-in, refused-with, opens-with, memory-is, order-is, queue-is, fault-is, registers-are, calls-are, weight-is, same, is-so, answers, has-tasks, is-refused, all-so, asked-number, holds, search-is}
+use Rattle.semantics.specs.Case.{Case, by-hand, by-hand-under, by-hand-alone, by-two-hands, by-calls, tasks-in, refused-with, opens-with, memory-is, order-is, queue-is, fault-is, registers-are, calls-are, weight-is, same, is-so, same-record, same-records, alike-from, isolates, answers, has-tasks, is-refused, all-so, asked-number, holds, search-is}
 
 -- two locations; footprints: read 0; read and write 0
 abbrev small : List (List Instruction) → TaskList
@@ -133,6 +134,20 @@ sum-behind f = record { locations = 2; footprints = totals [] .footprints; bodie
 abbrev sum-bytes : ℕ → ℕ → ℕ → ℕ → ℕ → List ℕ
 sum-bytes kind value a b c =
     0x4A ∷ 0x48 ∷ 2 ∷ 1 ∷ 1 ∷ 0x4A ∷ 0x46 ∷ 1 ∷ kind ∷ value ∷ 0x4A ∷ 0x42 ∷ 1 ∷ 10 ∷ a ∷ b ∷ c ∷ []
+
+-- request 109: a task that reads location 0, writes 1 and sums 2; it and its child add what it loads there; then it loads location 3
+abbrev ward : TaskList
+ward =
+    record {
+      locations = 4;
+      footprints = (named 0 0 ∷ named 4 2 ∷ []) ∷ [];
+      bodies =
+          [] ∷ (Load 1 0 ∷ Store 2 1 ∷ Sum 3 1 ∷ Spawn 2 0 ∷ Const 0 3 ∷ Load 1 0 ∷ []) ∷ (Load 2 0 ∷ Sum 3 2 ∷ []) ∷ [];
+    }
+
+-- it is begun under this number
+abbrev ward-task : ℕ → Lone
+ward-task n = record { number = n; body = 1; registers = 0 ∷ 9 ∷ 1 ∷ 2 ∷ []; modes = 1 ∷ 2 ∷ 3 ∷ [] }
 
 -- a spawn behind a fan of two tasks, all of a body that fans out one task; no locations are asked for
 abbrev behind-fan : Instruction → TaskList
@@ -349,6 +364,16 @@ cases =
     refused-with (sum-bytes 4 0 4 0 0) 5 ∷
     refused-with (sum-bytes 4 0 0 4 0) 5 ∷
     refused-with (sum-bytes 4 0 0 0 1) 5 ∷
+    -- request 109: the hand run of one sheet by itself. The load of a location that the footprint hasn't faults 1.
+    by-hand-alone ward (ward-task 5) (4 ∷ 10 ∷ 20 ∷ 30 ∷ [])
+    (memory-is (4 ∷ 4 ∷ 28 ∷ 30 ∷ []) ∷ order-is [] ∷ fault-is 5 1 ∷ registers-are 5 (3 ∷ 4 ∷ 1 ∷ 2 ∷ []) ∷
+    registers-are 6 (0 ∷ 4 ∷ 4 ∷ 2 ∷ []) ∷ registers-are 0 (0 ∷ 0 ∷ 0 ∷ 0 ∷ []) ∷ calls-are 12 ∷ weight-is 44 ∷ []) ∷
+    -- "its block ending at 127 or below"
+    by-hand-alone ward (ward-task 126) (4 ∷ 10 ∷ 20 ∷ 30 ∷ [])
+    (memory-is (4 ∷ 4 ∷ 28 ∷ 30 ∷ []) ∷ order-is [] ∷ registers-are 127 (0 ∷ 4 ∷ 4 ∷ 2 ∷ []) ∷ calls-are 12 ∷ weight-is 44 ∷ []) ∷
+    -- "over entries alike inside that footprint": location 3 is outside it
+    by-two-hands ward (ward-task 5) (4 ∷ 10 ∷ 20 ∷ 30 ∷ []) (4 ∷ 10 ∷ 20 ∷ 99 ∷ []) ∷
+    by-two-hands ward (ward-task 126) (4 ∷ 10 ∷ 4294967295 ∷ 0 ∷ []) (4 ∷ 10 ∷ 4294967295 ∷ 1 ∷ []) ∷
     -- Besides those marked. "With P and input 00 00 01 00 01 00 00 02 it prints the lines 0, 0, 0, 12, 5, 7, `3 21 3`."
     -- With request 102 the fourth is 19.
     by-calls P (5 ∷ 7 ∷ []) (opening ++ (start-of 2 ∷ [])) (0 ∷ 0 ∷ 0 ∷ 19 ∷ [])
@@ -377,5 +402,5 @@ cases =
     (fault-is 2 2 ∷ order-is (1 ∷ 2 ∷ 0 ∷ []) ∷ []) ∷ []
 
 pub cases-hold : every holds cases ≡ true
-unfolding body-of footprint-of instruction-of total adds count-body count-from counts task-count field is-tag tag in-range number counted many row head-numbers head line-limit line-ok is-line line footprint forms form spawn-ok instruction-ok is-instruction instruction body list-behind sized finish decode Decode.register instruction-fields line-fields joined footprint-bytes body-bytes head-bytes encode no-modes never fixed-weights weight-places is-weight weight-of root-modes root initial every any only ahead queue behind-writer compatible allowed access-fault unless-fault plan-load plan-store plan-wait plan-sum passed-over targets all-targets merged unless-denied grant child-modes with-first children fan-of numbered-from child-number plan-make plan-instruction units step-weight at-end needs-from plan-start plan-step plan-end plan hold admit search-from search hold-number settle among decide edited written splice stays places changes apply taken call after after-all run-each step-through steps-through enough run-whole sequential with-weights with-list open-asked sequential-asked queue-places outcome-number same is-so answers has-tasks is-refused all-so asked-number holds
+unfolding body-of footprint-of instruction-of total adds count-body count-from counts task-count field is-tag tag in-range number counted many row head-numbers head line-limit line-ok is-line line footprint forms form spawn-ok instruction-ok is-instruction instruction body list-behind sized finish decode Decode.register instruction-fields line-fields joined footprint-bytes body-bytes head-bytes encode no-modes never fixed-weights weight-places is-weight weight-of root-modes root initial every any only ahead queue behind-writer compatible allowed access-fault unless-fault plan-load plan-store plan-wait plan-sum passed-over targets all-targets merged unless-denied grant child-modes with-first children fan-of numbered-from child-number plan-make plan-instruction units step-weight at-end needs-from plan-start plan-step plan-end plan hold admit search-from search hold-number settle among decide edited written splice stays places changes apply taken call after after-all run-each step-through steps-through enough run-whole sequential first-record alone hand-run inside kept with-weights with-list open-asked sequential-asked queue-places outcome-number same is-so same-record same-records alike-from isolates answers has-tasks is-refused all-so asked-number holds
 cases-hold = refl

@@ -1,5 +1,5 @@
 -- Every accepted call leaves a valid run valid, and an initial run is valid. Assumes nothing.
-use Prim.Native.Nat.{ℕ, zero, suc, _+_, _≤_, _<_}
+use Prim.Native.Nat.{ℕ, _+_, _≤_, _<_}
 use mathlib.Core.Path.{_≡_, refl, sym, ap, subst, _∙_}
 use mathlib.Core.List.{List, [], _∷_}
 use mathlib.Core.Bool.{Bool, true, false}
@@ -7,13 +7,15 @@ use mathlib.Core.Option.{some}
 use mathlib.Core.Logic.{_⊎_, inl, inr, _≢_}
 use native.Mathlib.Omega.{arith}
 use native.Mathlib.Decide.{decLt}
-use lib.ListN.{length, getD, replicate, length-replicate, getD-replicate, List·getD-eq-default}
+use lib.ListN.{length, getD, replicate, length-set, length-replicate, getD-replicate, List·getD-eq-default}
+use lib.Seq.{getD-set-same, getD-set-other}
 use Rattle.tasklist.specs.TaskList.{task-count}
 use Rattle.tasklist.specs.Accepted.{Accepted}
-use Rattle.semantics.specs.Run.{Run, Context, never, task-of, root, initial}
+use Rattle.semantics.specs.Run.{Run, Context, never, task-of, root-modes, root, initial}
 use Rattle.semantics.specs.Effect.{Numbered, Effect}
 use Rattle.semantics.specs.Plan.{child-number}
 use Rattle.semantics.specs.Call.{Call, stays, places, charged, changes, apply, call}
+use Rattle.semantics.specs.Isolation.{Lone, first-record, alone, block-end}
 use Rattle.semantics.specs.Sound.{In, Distinct, limit, Future, Valid}
 use Rattle.semantics.proofs.Order.{in-append, in-splice, distinct-append, distinct-splice}
 use Rattle.semantics.proofs.Apply.{numbers, touched, numbers-in, length-written, task-self, task-other}
@@ -255,7 +257,7 @@ pub call-valid :
     (c : Context) → Accepted (c .list) → (r r′ : Run) (b : Call) → Valid c r → call c r b ≡ some r′ → Valid c r′
 call-valid c ok r r′ b v q = let h = call-accept c r b r′ q in subst (Valid c) (h .2) (valid-kept c ok r v b (h .0) (h .1))
 
--- the initial run
+-- never-made records
 pub blanks : (k m : ℕ) → getD (replicate m never) k never ≡ never
 blanks k m = sort (decLt k m)
   where
@@ -263,28 +265,47 @@ blanks k m = sort (decLt k m)
     sort (yes h) = getD-replicate m k never never h
     sort (no h) = List·getD-eq-default (replicate m never) never (subst (λ z. z ≤ k) (sym (length-replicate m never)) (omega arith))
 
-module _ (c : Context) (ok : Accepted (c .list)) (memory : List ℕ) where
-  root-record : (n : ℕ) → In n (initial c memory .order) → (n ≡ 0) × (task-of (initial c memory) n ≡ root c)
-  unfolding initial
-  root-record n (inl q) = (q, ap (task-of (initial c memory)) q)
-  root-record n (inr i) = absurd i
+-- a run of one task alone
+module _ (c : Context) (ok : Accepted (c .list)) (j : Lone) (fits : block-end c j ≤ 128) (memory : List ℕ) where
+  lone-below : j .number < length (replicate 128 never)
+  lone-below = let q = count-law c ok (j .body) in let s = length-replicate 128 never in omega (arith, fits)
 
-  other-blank : (k : ℕ) → 0 < k → task-of (initial c memory) k ≡ never
-  unfolding initial
-  other-blank zero h = let bad : ⊥ = omega arith in absurd bad
-  other-blank (suc k) h = blanks k 127
+  pub lone-record : (n : ℕ) → In n (alone j memory .order) → (n ≡ j .number) × (task-of (alone j memory) n ≡ first-record j)
+  unfolding alone
+  lone-record n (inl q) =
+      (q, ap (task-of (alone j memory)) q ∙ getD-set-same (replicate 128 never) (j .number) (first-record j) never lone-below)
+  lone-record n (inr i) = absurd i
 
-  pub initial-valid : Valid c (initial c memory)
-  initial-valid =
+  other-blank : (k : ℕ) → j .number < k → task-of (alone j memory) k ≡ never
+  unfolding alone
+  other-blank k h =
+      getD-set-other (replicate 128 never) (j .number) k (first-record j) never (λ q. omega arith) ∙ blanks k 128
+
+  pub alone-valid : Valid c (alone j memory)
+  alone-valid =
       record {
-        size = unfold initial in ap suc (length-replicate 127 never);
-        distinct = unfold initial in ((λ i. i), tt);
-        active = λ n i. inl (ap (λ t. t .state) (root-record n i .1) ∙ unfold root in refl);
+        size = unfold alone in length-set (replicate 128 never) (j .number) (first-record j) ∙ length-replicate 128 never;
+        distinct = unfold alone in ((λ i. i), tt);
+        active = λ n i. inl (ap (λ t. t .state) (lone-record n i .1) ∙ unfold first-record in refl);
         block = λ n i.
-            let q = root-record n i in
+            let q = lone-record n i in
             subst (λ t. limit c n t ≤ 128) (sym (q .1))
-            (subst (λ z. limit c z (root c) ≤ 128) (sym (q .0)) (unfold root in omega (arith, ok .most-tasks)));
+            (subst (λ z. limit c z (first-record j) ≤ 128) (sym (q .0)) (unfold first-record in fits));
         blank = λ n k i f.
-            let a = number-above c ok n (task-of (initial c memory) n) in other-blank k (omega (arith, f .0, a));
-        owner = λ n m k i j f g. root-record n i .0 ∙ sym (root-record m j .0);
+            let a = number-above c ok n (task-of (alone j memory) n) in
+            other-blank k (omega (arith, f .0, a, lone-record n i .0));
+        owner = λ n m k i i′ f g. lone-record n i .0 ∙ sym (lone-record m i′ .0);
       }
+
+-- an initial run is one of job 0 alone
+abbrev pub root-lone : Context → Lone
+root-lone c =
+    record { number = 0; body = 0; registers = 0 ∷ 0 ∷ 0 ∷ 0 ∷ []; modes = root-modes (c .list .locations) }
+
+pub initial-alone : (c : Context) (memory : List ℕ) → alone (root-lone c) memory ≡ initial c memory
+unfolding alone first-record initial root
+initial-alone c memory = refl
+
+pub initial-valid : (c : Context) → Accepted (c .list) → (memory : List ℕ) → Valid c (initial c memory)
+initial-valid c ok memory =
+    subst (Valid c) (initial-alone c memory) (alone-valid c ok (root-lone c) (omega (arith, ok .most-tasks)) memory)

@@ -31,5 +31,8 @@ pub mod Sound
 pub mod Bounds
 pub mod Unchanged
 pub mod Search
+-- request 109
+pub mod Isolation
+-- for bytes
 pub mod Bytes
 pub mod Asked

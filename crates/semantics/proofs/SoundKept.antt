@@ -57,7 +57,7 @@ charged-sound c w t h q =
       blank = λ x. absurd (q x);
     }
 
-edited-length : (E : Edit) (m : List ℕ) → length (edited E m) ≡ length m
+pub edited-length : (E : Edit) (m : List ℕ) → length (edited E m) ≡ length m
 unfolding edited
 edited-length keep m = refl
 edited-length (put a v) m = length-set m a v

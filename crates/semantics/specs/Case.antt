@@ -1,15 +1,16 @@
 -- What a worked case of document 01 says, as a test that computes.
-use Prim.Native.Nat.{ℕ}
+use Prim.Native.Nat.{ℕ, zero, suc}
 use mathlib.Core.List.{List, [], _∷_}
-use mathlib.Core.Bool.{Bool, true, false, _&&_}
+use mathlib.Core.Bool.{Bool, true, false, not, _&&_, _||_}
 use lib.Dec.{eqb}
 use Rattle.tasklist.specs.TaskList.{TaskList, task-count}
 use Rattle.tasklist.specs.Decode.{Decoded, refused, accepted, decode}
-use Rattle.semantics.specs.Run.{Run, Context, context, fixed-weights, task-of, initial}
+use Rattle.semantics.specs.Run.{Task, Run, Context, context, fixed-weights, task-of, initial}
 use Rattle.semantics.specs.Access.{Access, every}
 use Rattle.semantics.specs.Call.{Call, decide, after, after-all}
 use Rattle.semantics.specs.Search.{search, hold-number}
 use Rattle.semantics.specs.Sequential.{sequential}
+use Rattle.semantics.specs.Isolation.{Lone, hand-run, inside, kept}
 use Rattle.semantics.specs.Operations.{Asked, denies, gives, open-asked, sequential-asked, queue-places}
 use Rattle.semantics.specs.Answers.{outcome-number}
 
@@ -34,6 +35,10 @@ pub data Case : Type 0 where
   by-hand : TaskList → List ℕ → List Fact → Case
   -- the facts that hold after the sequential run of these bytes, a memory and a table of weights
   by-hand-under : List ℕ → List ℕ → List ℕ → List Fact → Case
+  -- the facts that hold after the hand run of a task alone
+  by-hand-alone : TaskList → Lone → List ℕ → List Fact → Case
+  -- request 109's words on the hand runs of a task alone over two memories
+  by-two-hands : TaskList → Lone → List ℕ → List ℕ → Case
   -- what calls from the initial run answer, each 0 or its refusal, and the facts that hold after them
   by-calls : TaskList → List ℕ → List Call → List ℕ → List Fact → Case
   -- these bytes are a list of so many tasks
@@ -59,6 +64,30 @@ is-so r (registers-are n vs) = same (task-of r n .registers) vs
 is-so r (calls-are k) = eqb (r .calls) k
 is-so r (weight-is w) = eqb (r .weight) w
 
+unfoldable pub same-record : Task → Task → Bool
+same-record t u =
+    eqb (t .state) (u .state) && eqb (t .body) (u .body) && eqb (t .pc) (u .pc) && same (t .registers) (u .registers) &&
+    same (t .modes) (u .modes) && eqb (t .steps) (u .steps) && eqb (t .fault) (u .fault) && eqb (t .weight) (u .weight)
+
+-- so many records from number n on
+unfoldable pub same-records : Run → Run → ℕ → ℕ → Bool
+same-records r r′ n zero = true
+same-records r r′ n (suc left) = same-record (task-of r n) (task-of r′ n) && same-records r r′ (suc n) left
+
+-- the entries from location a on are alike where a test says so
+unfoldable pub alike-from : (ℕ → Bool) → ℕ → List ℕ → List ℕ → Bool
+alike-from test a [] [] = true
+alike-from test a [] (y ∷ ys) = false
+alike-from test a (x ∷ xs) [] = false
+alike-from test a (x ∷ xs) (y ∷ ys) = (not (test a) || eqb x y) && alike-from test (suc a) xs ys
+
+-- "entries alike inside that footprint", and then what request 109 says of the two runs that are left
+unfoldable pub isolates : Lone → ℕ → List ℕ → List ℕ → Run → Run → Bool
+isolates j count m m′ r r′ =
+    alike-from (inside j) 0 m m′ && same-records r r′ (j .number) count &&
+    alike-from (inside j) 0 (r .memory) (r′ .memory) && alike-from (kept j) 0 (r .memory) m &&
+    alike-from (kept j) 0 (r′ .memory) m′
+
 -- the answers of calls, one after another
 unfoldable pub answers : Context → Run → List Call → List ℕ
 answers c r [] = []
@@ -83,6 +112,10 @@ asked-number (gives a) = 0
 unfoldable pub holds : Case → Bool
 holds (by-hand l m facts) = every (is-so (sequential (context l fixed-weights) m)) facts
 holds (by-hand-under bytes m weights facts) = all-so facts (sequential-asked bytes m weights)
+holds (by-hand-alone l j m facts) = every (is-so (hand-run (context l fixed-weights) j m)) facts
+holds (by-two-hands l j m m′) =
+    let c = context l fixed-weights in
+    isolates j (task-count l (j .body)) m m′ (hand-run c j m) (hand-run c j m′)
 holds (by-calls l m bs ks facts) =
     let c = context l fixed-weights in
     let r = initial c m in

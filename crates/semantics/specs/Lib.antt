@@ -7,6 +7,7 @@ pub mod Plan
 pub mod Call
 pub mod Search
 pub mod Sequential
+pub mod Isolation
 pub mod Operations
 pub mod Answers
 pub mod Case

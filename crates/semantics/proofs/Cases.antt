@@ -2,7 +2,7 @@
 -- nothing.
 use Prim.Native.Nat.{ℕ}
 use mathlib.Core.Path.{_≡_, refl}
-use mathlib.Core.List.{List, [], _∷_, _++_}
+use mathlib.Core.List.{List, [], _∷_, _++_, map}
 use mathlib.Core.Bool.{true}
 use lib.ListN.{length, replicate}
 use Rattle.tasklist.specs.declared.Line.{Line}
@@ -21,11 +21,12 @@ use Rattle.semantics.specs.Footprint.{targets, all-targets, merged, unle
 use Rattle.semantics.specs.Plan.{unless-fault, plan-load, plan-store, plan-wait, plan-sum, passed-over, child-number, plan-make, plan-instruction, units, step-weight, at-end, needs-from, plan-start, plan-step, plan-end, plan}
 use Rattle.semantics.specs.Call.{Call, hold, admit, settle, among, decide, edited, written, splice, stays, places, changes, apply, taken, call, after, after-all}
 use Rattle.semantics.specs.Search.{search-from, search, hold-number}
-use Rattle.semantics.specs.Sequential.{start-of, step-of, end-of, run-each, step-through, steps-through, enough, run-whole, sequential}
+use Rattle.semantics.specs.Sequential.{start-of, step-of, end-of, run-each, step-through, steps-through, enough, run-whole, sequential, trace-each, trace-steps, trace-whole, trace}
 use Rattle.semantics.specs.Isolation.{Lone, first-record, alone, hand-run, inside, kept}
+use Rattle.semantics.specs.Turns.{Ply, turn, other, next-action, next-call, foremost-call, decide-move, move, after-move-by, after-move, after-ply, after-play, turns, others-call, others-accepted, is-end, ends-at, ends-with}
 use Rattle.semantics.specs.Operations.{with-weights, with-list, open-asked, sequential-asked, queue-places}
 use Rattle.semantics.specs.Answers.{outcome-number}
-use Rattle.semantics.specs.Case.{Case, by-hand, by-hand-under, by-hand-alone, by-two-hands, by-calls, tasks-in, refused-with, opens-with, memory-is, order-is, queue-is, fault-is, registers-are, calls-are, weight-is, same, is-so, same-record, same-records, alike-from, isolates, answers, has-tasks, is-refused, all-so, asked-number, holds, search-is}
+use Rattle.semantics.specs.Case.{Case, by-hand, by-hand-under, by-hand-alone, by-two-hands, by-calls, tasks-in, refused-with, opens-with, memory-is, order-is, queue-is, fault-is, registers-are, calls-are, weight-is, same, is-so, same-record, same-records, alike-from, isolates, answers, has-tasks, is-refused, all-so, asked-number, holds, search-is, by-play, play-has, ends-by-hand, state-is, ply-answer, play-answers}
 
 -- two locations; footprints: read 0; read and write 0
 abbrev small : List (List Instruction) → TaskList
@@ -180,6 +181,14 @@ tower more =
 -- a table of weights
 abbrev primes : List ℕ
 primes = 3 ∷ 5 ∷ 7 ∷ 11 ∷ 13 ∷ 17 ∷ 19 ∷ 23 ∷ 29 ∷ 31 ∷ 37 ∷ 41 ∷ 43 ∷ []
+
+-- plays with P: the other side's calls are all refused; or it makes both children and ends job 0
+abbrev refused-between : List Ply
+refused-between =
+    other (start-of 1) ∷ other (end-of 0) ∷ turn ∷ turn ∷ other (start-of 200) ∷ turn ∷ turn ∷ turn ∷ other (start-of 0) ∷ []
+
+abbrev pushed-ahead : List Ply
+pushed-ahead = map other (start-of 0 ∷ step-of 0 ∷ step-of 0 ∷ start-of 2 ∷ end-of 0 ∷ []) ++ replicate 4 turn
 
 -- start 0, step 0, step 0
 abbrev opening : List Call
@@ -374,6 +383,28 @@ cases =
     -- "over entries alike inside that footprint": location 3 is outside it
     by-two-hands ward (ward-task 5) (4 ∷ 10 ∷ 20 ∷ 30 ∷ []) (4 ∷ 10 ∷ 20 ∷ 99 ∷ []) ∷
     by-two-hands ward (ward-task 126) (4 ∷ 10 ∷ 4294967295 ∷ 0 ∷ []) (4 ∷ 10 ∷ 4294967295 ∷ 1 ∷ []) ∷
+    -- request 112: P's hand run ends job 1 with its 6th call, job 2 with its 12th, job 0 with its 13th; so do the turns of a side
+    -- that makes the next call of the foremost job, and a turn more gives 25
+    ends-by-hand P (5 ∷ 7 ∷ []) 1 6 ∷
+    ends-by-hand P (5 ∷ 7 ∷ []) 2 12 ∷
+    ends-by-hand P (5 ∷ 7 ∷ []) 0 13 ∷
+    by-play P (5 ∷ 7 ∷ []) (replicate 5 turn) (replicate 5 0) (state-is 1 2 ∷ []) ∷
+    by-play P (5 ∷ 7 ∷ []) (replicate 6 turn) (replicate 6 0) (state-is 1 3 ∷ order-is (0 ∷ []) ∷ []) ∷
+    by-play P (5 ∷ 7 ∷ []) (replicate 11 turn) (replicate 11 0) (state-is 2 2 ∷ []) ∷
+    by-play P (5 ∷ 7 ∷ []) (replicate 12 turn) (replicate 12 0) (state-is 2 3 ∷ state-is 0 2 ∷ []) ∷
+    by-play P (5 ∷ 7 ∷ []) (replicate 14 turn) (replicate 13 0 ++ (25 ∷ []))
+    (state-is 0 3 ∷ memory-is (9 ∷ 9 ∷ []) ∷ calls-are 13 ∷ weight-is 50 ∷ order-is [] ∷ []) ∷
+    -- calls of the other side that are all refused change nothing
+    by-play P (5 ∷ 7 ∷ []) refused-between (10 ∷ 13 ∷ 0 ∷ 0 ∷ 9 ∷ 0 ∷ 0 ∷ 0 ∷ 11 ∷ []) (state-is 1 2 ∷ calls-are 5 ∷ []) ∷
+    play-has P (5 ∷ 7 ∷ []) refused-between 5 0 ∷
+    -- the other side makes both children and ends job 0: job 1 has ended after 4 turns, before its 6th
+    by-play P (5 ∷ 7 ∷ []) pushed-ahead (0 ∷ 0 ∷ 0 ∷ 19 ∷ 0 ∷ 0 ∷ 0 ∷ 0 ∷ 0 ∷ []) (state-is 1 3 ∷ order-is (2 ∷ []) ∷ []) ∷
+    play-has P (5 ∷ 7 ∷ []) pushed-ahead 4 4 ∷
+    -- the other side runs job 1 whole: after 6 turns no job is left, and job 2's 12th never comes
+    by-play P (5 ∷ 7 ∷ [])
+    (map other (opening ++ (start-of 1 ∷ step-of 1 ∷ step-of 1 ∷ end-of 1 ∷ [])) ++ replicate 7 turn)
+    (0 ∷ 0 ∷ 0 ∷ 0 ∷ 0 ∷ 0 ∷ 0 ∷ 0 ∷ 0 ∷ 0 ∷ 0 ∷ 0 ∷ 0 ∷ 25 ∷ [])
+    (state-is 1 3 ∷ state-is 2 3 ∷ state-is 0 3 ∷ calls-are 13 ∷ []) ∷
     -- Besides those marked. "With P and input 00 00 01 00 01 00 00 02 it prints the lines 0, 0, 0, 12, 5, 7, `3 21 3`."
     -- With request 102 the fourth is 19.
     by-calls P (5 ∷ 7 ∷ []) (opening ++ (start-of 2 ∷ [])) (0 ∷ 0 ∷ 0 ∷ 19 ∷ [])
@@ -402,5 +433,5 @@ cases =
     (fault-is 2 2 ∷ order-is (1 ∷ 2 ∷ 0 ∷ []) ∷ []) ∷ []
 
 pub cases-hold : every holds cases ≡ true
-unfolding body-of footprint-of instruction-of total adds count-body count-from counts task-count field is-tag tag in-range number counted many row head-numbers head line-limit line-ok is-line line footprint forms form spawn-ok instruction-ok is-instruction instruction body list-behind sized finish decode Decode.register instruction-fields line-fields joined footprint-bytes body-bytes head-bytes encode no-modes never fixed-weights weight-places is-weight weight-of root-modes root initial every any only ahead queue behind-writer compatible allowed access-fault unless-fault plan-load plan-store plan-wait plan-sum passed-over targets all-targets merged unless-denied grant child-modes with-first children fan-of numbered-from child-number plan-make plan-instruction units step-weight at-end needs-from plan-start plan-step plan-end plan hold admit search-from search hold-number settle among decide edited written splice stays places changes apply taken call after after-all run-each step-through steps-through enough run-whole sequential first-record alone hand-run inside kept with-weights with-list open-asked sequential-asked queue-places outcome-number same is-so same-record same-records alike-from isolates answers has-tasks is-refused all-so asked-number holds
+unfolding body-of footprint-of instruction-of total adds count-body count-from counts task-count field is-tag tag in-range number counted many row head-numbers head line-limit line-ok is-line line footprint forms form spawn-ok instruction-ok is-instruction instruction body list-behind sized finish decode Decode.register instruction-fields line-fields joined footprint-bytes body-bytes head-bytes encode no-modes never fixed-weights weight-places is-weight weight-of root-modes root initial every any only ahead queue behind-writer compatible allowed access-fault unless-fault plan-load plan-store plan-wait plan-sum passed-over targets all-targets merged unless-denied grant child-modes with-first children fan-of numbered-from child-number plan-make plan-instruction units step-weight at-end needs-from plan-start plan-step plan-end plan hold admit search-from search hold-number settle among decide edited written splice stays places changes apply taken call after after-all run-each step-through steps-through enough run-whole sequential first-record alone hand-run inside kept with-weights with-list open-asked sequential-asked queue-places outcome-number same is-so same-record same-records alike-from isolates answers has-tasks is-refused all-so asked-number holds trace-each trace-steps trace-whole trace next-action next-call foremost-call decide-move move after-move-by after-move after-ply after-play turns others-call others-accepted is-end ends-at ends-with ply-answer play-answers
 cases-hold = refl

@@ -142,3 +142,17 @@ one-action c t step end h k = absurd (false≢true (sym (h .1) ∙ k .1))
 one-action c t end start h k = absurd (apart (t .state) k (h .0))
 one-action c t end step h k = absurd (false≢true (sym (k .1) ∙ h .1))
 one-action c t end end h k = refl
+
+-- two accepted calls of one task are one and the same
+pub one-call :
+    (c : Context) (r r₁ r₂ : Run) (b b′ : Call) → call c r b ≡ some r₁ → call c r b′ ≡ some r₂ → b .task ≡ b′ .task → b ≡ b′
+one-call c r r₁ r₂ b b′ p q n = λ i. record { action = same i; task = n i }
+  where
+    ready : (d : Call) (r′ : Run) → call c r d ≡ some r′ → Ready c (task-of r (d .task)) (d .action)
+    ready d r′ h =
+        let x = call-accept c r d r′ h in settled-ready c r (d .task) (task-of r (d .task)) (x .0) (d .action) (x .1 .settled)
+
+    same : b .action ≡ b′ .action
+    same =
+        one-action c (task-of r (b .task)) (b .action) (b′ .action) (ready b r₁ p)
+        (subst (λ m. Ready c (task-of r m) (b′ .action)) (sym n) (ready b′ r₂ q))

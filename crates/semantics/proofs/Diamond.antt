@@ -23,7 +23,7 @@ use Rattle.semantics.proofs.Modes.{not-zero, write-ahead, write-behind,
 use Rattle.semantics.proofs.SoundModes.{granted-queued}
 use Rattle.semantics.proofs.Apply.{touched, numbers, Disjoint, EditsApart, numbers-in, places-touched, apply-comm, task-self}
 use Rattle.semantics.proofs.Fair.{Guarded, FairPlan, fair-plan}
-use Rattle.semantics.proofs.Decide.{Settled, Accepts, Ready, call-accept, accept-call, settled-ready, one-action}
+use Rattle.semantics.proofs.Decide.{Settled, Accepts, call-accept, accept-call, one-call}
 use Rattle.semantics.proofs.Valid.{accepted-fair, made-absent, made-is-future, untouched, other-record, made-record}
 
 -- an edit is behind an open guard of its location, which the task's own mode allows
@@ -255,17 +255,6 @@ diamond c ok r r₁ r₂ b b′ v p q = sort (ℕ-discrete (b .task) (b′ .task
     d : Effect
     d = y .0
 
-    first-ready : Ready c (task-of r (b .task)) (b .action)
-    first-ready = settled-ready c r (b .task) (task-of r (b .task)) e (b .action) (x .1 .settled)
-
-    second-ready : Ready c (task-of r (b′ .task)) (b′ .action)
-    second-ready = settled-ready c r (b′ .task) (task-of r (b′ .task)) d (b′ .action) (y .1 .settled)
-
-    one-task : b .task ≡ b′ .task → b .action ≡ b′ .action
-    one-task n =
-        one-action c (task-of r (b .task)) (b .action) (b′ .action) first-ready
-        (subst (λ m. Ready c (task-of r m) (b′ .action)) (sym n) second-ready)
-
     both : Run
     both = apply (b′ .task) d (apply (b .task) e r)
 
@@ -279,5 +268,5 @@ diamond c ok r r₁ r₂ b b′ v p q = sort (ℕ-discrete (b .task) (b′ .task
         ∙ ap some (sym (same-run c ok r v b b′ e d (x .1) (y .1) ne)))
 
     sort : Dec (b .task ≡ b′ .task) → Meet (call c) b b′ r₁ r₂
-    sort (yes n) = inl (λ i. record { action = one-task n i; task = n i })
+    sort (yes n) = inl (one-call c r r₁ r₂ b b′ p q n)
     sort (no ne) = inr (both, one-way ne, other-way ne)

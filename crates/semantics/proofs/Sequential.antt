@@ -24,15 +24,19 @@ use Rattle.semantics.proofs.Valid.{count-law, accepted-fair, other-reco
 use Rattle.semantics.proofs.Kept.{self-record, valid-kept, call-valid, initial-valid}
 use Rattle.semantics.proofs.Front.{Onward, front-in, front-start, front-end, front-step, front-order, front-remains}
 
--- these calls, all accepted, lead from one run to the other
+-- the call's task is the foremost
+abbrev pub Foremost : Run → Call → Type 0
+Foremost r b = (rest : List ℕ) × (r .order ≡ b .task ∷ rest)
+
+-- these calls, all accepted, each of the task foremost then, lead from one run to the other
 abbrev pub Makes : Context → Run → List Call → Run → Type 0
 Makes c r [] r′ = r ≡ r′
-Makes c r (b ∷ bs) r′ = (r₁ : Run) × (call c r b ≡ some r₁) × Makes c r₁ bs r′
+Makes c r (b ∷ bs) r′ = (r₁ : Run) × (call c r b ≡ some r₁) × Makes c r₁ bs r′ × Foremost r b
 
 pub makes-append :
     (c : Context) (bs ds : List Call) (r r₁ r₂ : Run) → Makes c r bs r₁ → Makes c r₁ ds r₂ → Makes c r (bs ++ ds) r₂
 makes-append c [] ds r r₁ r₂ h k = subst (λ x. Makes c x ds r₂) (sym h) k
-makes-append c (b ∷ bs) ds r r₁ r₂ h k = (h .0, h .1, makes-append c bs ds (h .0) r₁ r₂ (h .2) k)
+makes-append c (b ∷ bs) ds r r₁ r₂ h k = (h .0, h .1, makes-append c bs ds (h .0) r₁ r₂ (h .2) k, h .3)
 
 pub makes-valid :
     (c : Context) → Accepted (c .list) → (bs : List Call) (r r′ : Run) → Valid c r → Makes c r bs r′ → Valid c r′
@@ -98,7 +102,7 @@ unfolding at-end
 charged-end c w t = refl
 
 module _ (c : Context) (ok : Accepted (c .list)) where
-  below : (r : Run) (n : ℕ) → Valid c r → In n (r .order) → n < 128
+  pub below : (r : Run) (n : ℕ) → Valid c r → In n (r .order) → n < 128
   below r n v i = let q = count-law c ok (task-of r n .body) in omega (arith, v .block n i, q)
 
   behind : (n k : ℕ) (r : Run) (rest : List ℕ) → Valid c r → r .order ≡ n ∷ rest → In k rest → k ≢ n
@@ -179,7 +183,7 @@ module _ (c : Context) (ok : Accepted (c .list)) where
         result : Stepping (numbers (e .made)) r₁
         result =
             record {
-              makes = (r₁, accept-call c r (step-of n) e h, made .makes);
+              makes = (r₁, accept-call c r (step-of n) e h, made .makes, (rest, q));
               order = made .order;
               others = λ k i. made .others k (inr i) ∙ unmoved r n k rest step e v q h i;
               started = ap (λ t. t .state) own-record ∙ accepted-fair c ok r v (step-of n) e h .alive (found .2 .remains);
@@ -328,12 +332,12 @@ module _ (c : Context) (ok : Accepted (c .list)) where
               unmoved r₂ n j rest end gone v₂ (s .order) k i ∙ s .others j i ∙ unmoved r n j rest start begun v q h i
 
           steps-and-end : Makes c r₁ (walk r₁ ++ (end-of n ∷ [])) r₃
-          steps-and-end = makes-append c (walk r₁) (end-of n ∷ []) r₁ r₂ r₃ (s .makes) (r₃, last, refl)
+          steps-and-end = makes-append c (walk r₁) (end-of n ∷ []) r₁ r₂ r₃ (s .makes) (r₃, last, refl, (rest, s .order))
 
           whole : Whole c r rest (start-of n ∷ (walk r₁ ++ (end-of n ∷ []))) r₃
           whole =
               record {
-                makes = (r₁, accept-call c r (start-of n) begun h, steps-and-end);
+                makes = (r₁, accept-call c r (start-of n) begun h, steps-and-end, (rest, q));
                 order = left₃;
                 others = others₃;
               }

@@ -11,6 +11,7 @@ use Rattle.semantics.specs.Call.{Call, decide, after, after-all}
 use Rattle.semantics.specs.Search.{search, hold-number}
 use Rattle.semantics.specs.Sequential.{sequential}
 use Rattle.semantics.specs.Isolation.{Lone, hand-run, inside, kept}
+use Rattle.semantics.specs.Turns.{Ply, turn, other, move, after-ply, after-play, turns, others-accepted, ends-with}
 use Rattle.semantics.specs.Operations.{Asked, denies, gives, open-asked, sequential-asked, queue-places}
 use Rattle.semantics.specs.Answers.{outcome-number}
 
@@ -20,6 +21,8 @@ pub data Fact : Type 0 where
   order-is : List ℕ → Fact
   -- the places that queue writes for a location
   queue-is : ℕ → List ℕ → Fact
+  -- a task's state
+  state-is : ℕ → ℕ → Fact
   -- a task's fault
   fault-is : ℕ → ℕ → Fact
   -- the search of a task for these accesses: the number of its hold, 0 for none, and how many tasks it looked at
@@ -41,6 +44,12 @@ pub data Case : Type 0 where
   by-two-hands : TaskList → Lone → List ℕ → List ℕ → Case
   -- what calls from the initial run answer, each 0 or its refusal, and the facts that hold after them
   by-calls : TaskList → List ℕ → List Call → List ℕ → List Fact → Case
+  -- what the turns and calls of a play from the initial run answer, and the facts that hold after them
+  by-play : TaskList → List ℕ → List Ply → List ℕ → List Fact → Case
+  -- how many turns a play from the initial run has, and how many accepted calls of the other side
+  play-has : TaskList → List ℕ → List Ply → ℕ → ℕ → Case
+  -- the sequential run ends this task with its call of this number, counted from 1
+  ends-by-hand : TaskList → List ℕ → ℕ → ℕ → Case
   -- these bytes are a list of so many tasks
   tasks-in : List ℕ → ℕ → Case
   -- these bytes are refused with this number
@@ -58,6 +67,7 @@ unfoldable pub is-so : Run → Fact → Bool
 is-so r (memory-is m) = same (r .memory) m
 is-so r (order-is o) = same (r .order) o
 is-so r (queue-is a q) = same (queue-places r a) q
+is-so r (state-is n k) = eqb (task-of r n .state) k
 is-so r (fault-is n k) = eqb (task-of r n .fault) k
 is-so r (search-is n gs k looked) = let f = search r n gs in eqb (hold-number f) k && eqb (f .looked) looked
 is-so r (registers-are n vs) = same (task-of r n .registers) vs
@@ -93,6 +103,14 @@ unfoldable pub answers : Context → Run → List Call → List ℕ
 answers c r [] = []
 answers c r (b ∷ bs) = outcome-number (decide c r b) ∷ answers c (after c r b) bs
 
+unfoldable pub ply-answer : Context → Run → Ply → ℕ
+ply-answer c r turn = outcome-number (move c r)
+ply-answer c r (other b) = outcome-number (decide c r b)
+
+unfoldable pub play-answers : Context → Run → List Ply → List ℕ
+play-answers c r [] = []
+play-answers c r (p ∷ ps) = ply-answer c r p ∷ play-answers c (after-ply c r p) ps
+
 unfoldable pub has-tasks : ℕ → Decoded → Bool
 has-tasks n (refused k) = false
 has-tasks n (accepted l) = eqb (task-count l 0) n
@@ -120,6 +138,13 @@ holds (by-calls l m bs ks facts) =
     let c = context l fixed-weights in
     let r = initial c m in
     same (answers c r bs) ks && every (is-so (after-all c r bs)) facts
+holds (by-play l m ps ks facts) =
+    let c = context l fixed-weights in
+    let r = initial c m in
+    same (play-answers c r ps) ks && every (is-so (after-play c r ps)) facts
+holds (play-has l m ps k others) =
+    let c = context l fixed-weights in eqb (turns ps) k && eqb (others-accepted c (initial c m) ps) others
+holds (ends-by-hand l m n k) = ends-with (context l fixed-weights) m n k
 holds (tasks-in bytes n) = has-tasks n (decode bytes)
 holds (refused-with bytes k) = is-refused k (decode bytes)
 holds (opens-with bytes memory weights k) = eqb (asked-number (open-asked bytes memory weights)) k

@@ -8,6 +8,7 @@ pub mod Call
 pub mod Search
 pub mod Sequential
 pub mod Isolation
+pub mod Turns
 pub mod Operations
 pub mod Answers
 pub mod Case

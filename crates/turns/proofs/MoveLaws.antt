@@ -114,7 +114,7 @@ refused-none : (k : CallRefusal) → Refused k ≡ NoneLeft → ⊥
 refused-none k q = none-refused k (sym q)
 
 -- a run by its parts
-run-of : Parts → Run
+abbrev run-of : Parts → Run
 run-of p =
     record {
       tables = p .tables;
@@ -140,7 +140,7 @@ front (n ∷ o) (suc k) l h = (take k o, refl)
 -- The move.
 module _ (run : Run) where
   pub moved-none : run .left ≡ 0 → MovedAs run (record { answer = NoneLeft; run = run })
-  unfolding move-number Of.model
+  unfolding move-number outcome-number
   moved-none q =
       record {
         answer = λ s. sym (ap outcome-number (move-none (context-of run) (model run) nobody));

@@ -11,11 +11,10 @@ use Rattle.semantics.specs.declared.CallRefusal.{CallRefusal}
 use Rattle.semantics.specs.declared.CallRefusal.the-variants as Why
 use Rattle.semantics.specs.declared.Answer.the-variants as Answers
 use Rattle.semantics.specs.Run.{task-of}
-use Rattle.semantics.specs.Effect.{Effect}
 use Rattle.semantics.specs.Plan.{Action, start, step, «end», at-end}
-use Rattle.semantics.specs.Call.{accept, or-same, taken, call, after}
+use Rattle.semantics.specs.Call.{or-same, taken, call, after}
 use Rattle.semantics.specs.Answers.{refusal-number, answer-number, outcome-number}
-use Rattle.semantics.specs.Turns.{next-action, next-call, move, after-move}
+use Rattle.semantics.specs.Turns.{next-action, next-call}
 use Rattle.semantics.proofs.Turns.{move-none, after-move-none, move-front, after-move-front, move-accepted}
 use Rattle.plans.specs.View.{Parts}
 use Rattle.plans.specs.View as Of
@@ -27,9 +26,7 @@ use Rattle.runtime.specs.declared.Called.{Called}
 use Rattle.runtime.specs.View.{parts-of, model, context-of, SoundRun}
 use Rattle.runtime.specs.Calls.{decided, CalledAs}
 use Rattle.runtime.specs.Parts.{record-of}
-use Rattle.turns.specs.declared.MoveAnswer.{MoveAnswer}
 use Rattle.turns.specs.declared.MoveAnswer.the-variants.{Made, NoneLeft, Refused}
-use Rattle.turns.specs.declared.Moved.{Moved}
 use Rattle.turns.specs.Moves.{move-number, MovedAs, NextCalled}
 
 -- The task's next call, in the code's terms.

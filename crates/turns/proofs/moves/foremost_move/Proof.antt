@@ -3,41 +3,30 @@ use Rattle.turns.proofs.MoveLaws.{moved-none, moved-made, moved-refused
 use borrow.Author.Needs.{needs}
 use Rattle.turns.proofs.moves.foremost_move.Statement.{statement}
 use Rattle.turns.proofs.moves.foremost_move.Tie as tie
-use Rattle.turns.proofs.moves.foremost_move.Reads as reads
-use Rattle.turns.proofs.moves.foremost_move.Lts as lts
-use Rattle.turns.proofs.moves.next_call.Reads as next-call-reads
 
--- src/moves.rt:34:9
 returns : tie.Need-returns
 returns c = moved-none (c .before .args .t1) (c .if1 .taken)
 
--- src/moves.rt:39:20
 element-copy-out-foremost : tie.Need-element-copy-out-foremost
 element-copy-out-foremost c = search needs
 
--- src/moves.rt:40:31
 cast-next-call : tie.Need-cast-next-call
 cast-next-call c = search needs
 
--- src/moves.rt:40:9
 next-call-requires : tie.Need-next-call-requires
 next-call-requires c κs = search needs
 
--- src/moves.rt:45:21
 enum-told : tie.Need-enum-told
 enum-told c = search needs
 
--- src/moves.rt:48:27
 enum-known-answer : tie.Need-enum-known-answer
 enum-known-answer c = search needs
 
--- src/moves.rt:30:1
 returns-2 : tie.Need-returns-2
 returns-2 c =
     let done = c .before .before .before .next-call in
     moved-made (c .before .before .before .before .before .before .args .t1) (c .before .before .before .before .before .if1 .left) (done .result) (done .ensures) (c .enum-told .given .1)
 
--- src/moves.rt:30:1
 returns-3 : tie.Need-returns-3
 returns-3 c =
     let done = c .before .before .before .before .next-call in

@@ -4,59 +4,41 @@ use Rattle.turns.proofs.MoveLaws.{next-no-number, next-start, next-end,
 use borrow.Author.Needs.{needs}
 use Rattle.turns.proofs.moves.next_call.Statement.{statement}
 use Rattle.turns.proofs.moves.next_call.Tie as tie
-use Rattle.turns.proofs.moves.next_call.Reads as reads
-use Rattle.turns.proofs.moves.next_call.Lts as lts
-use Rattle.listing.proofs.body_size.Reads as body-size-reads
-use Rattle.looks.proofs.at_end.Reads as at-end-reads
-use Rattle.runtime.proofs.Run.end.Reads as end-reads
-use Rattle.runtime.proofs.Run.start.Reads as start-reads
-use Rattle.runtime.proofs.Run.step.Reads as step-reads
 
--- src/moves.rt:15:9
 start-requires : tie.Need-start-requires
 start-requires c κs = search needs
 
--- src/moves.rt:15:9
 returns : tie.Need-returns
 returns c =
     let a = c .before .before .args in
     next-no-number (a .t1) (a .task) (c .start .result) (c .before .if1 .taken) (c .start .ensures)
 
--- src/moves.rt:17:15
 mul-own : tie.Need-mul-own
 mul-own c = search needs
 
--- src/moves.rt:17:15
 element-copy-out-own : tie.Need-element-copy-out-own
 element-copy-out-own c = search needs
 
--- src/moves.rt:19:9
 start-requires-2 : tie.Need-start-requires-2
 start-requires-2 c κs = search needs
 
--- src/moves.rt:19:9
 returns-2 : tie.Need-returns-2
 returns-2 c =
     let a = c .before .before .before .before .before .args in
     next-start (a .t1) (a .task) (c .start2 .result) (omega (arith, c .before .before .before .before .if1 .left)) (c .before .if2 .taken) (c .start2 .ensures)
 
--- src/moves.rt:22:43
 cast-body-size : tie.Need-cast-body-size
 cast-body-size c = search needs
 
--- src/moves.rt:22:9
 body-size-requires : tie.Need-body-size-requires
 body-size-requires c κs = search needs
 
--- src/moves.rt:23:8
 at-end-requires : tie.Need-at-end-requires
 at-end-requires c κs = search needs
 
--- src/moves.rt:24:9
 end-requires : tie.Need-end-requires
 end-requires c κs = search needs
 
--- src/moves.rt:24:9
 returns-3 : tie.Need-returns-3
 returns-3 c =
     let a = c .before .before .before .before .before .before .before .before .before .before .args in
@@ -64,11 +46,9 @@ returns-3 c =
     (c .before .before .before .body-size .result) (c .before .before .before .body-size .ensures) (c .before .before .at-end .result) (c .before .before .at-end .ensures)
     (c .before .if3 .taken) (c .end .ensures)
 
--- src/moves.rt:26:5
 step-requires : tie.Need-step-requires
 step-requires c κs = search needs
 
--- src/moves.rt:10:1
 returns-4 : tie.Need-returns-4
 returns-4 c =
     let a = c .before .before .before .before .before .before .before .before .before .before .args in

@@ -1,5 +1,5 @@
 -- The hand run over C in the words of document 01 and request 105: "as check, then 8, library length not C", which are bytes
--- "other than 4 × C"; "After 8: 21 wrong length", bytes other than 24, "22 a number not in 1 to 1000"; "slice too short: 17,
+-- "other than 4 × C"; "After 8: 21 wrong length", bytes other than 30, "22 a number not in 1 to 1000"; "slice too short: 17,
 -- last"; else the final entries, 4 × C bytes. Assumes nothing.
 use Prim.Native.Nat.{ℕ, _*_, _^_, _≤_, _<_}
 use mathlib.Core.Path.{_≡_, refl, sym, ap, _∙_}
@@ -55,13 +55,13 @@ module _ (list library table : List ℕ) (room : ℕ) where
           ∙ rw (eq-eqb (length (memory-of library)) (l .locations) (fits-length library (l .locations) fits)) refl
           ∙ ap (λ m. final-entries room (with-weights (table-of table) (sequential (context l (table-of table)) m))) held
 
-      pub table-refused : (length table ≡ 24 → ⊥) → hand-run-over-c list library table room ≡ denies 21
+      pub table-refused : (length table ≡ 30 → ⊥) → hand-run-over-c list library table room ≡ denies 21
       unfolding final-entries with-weights weight-places
       table-refused other =
           asked
           ∙ ap (λ ws. final-entries room (with-weights ws (sequential (context l (table-of table)) (numbers-of library)))) (table-none table other)
 
-      module _ (whole : length table ≡ 24) where
+      module _ (whole : length table ≡ 30) where
         -- the table's numbers
         abbrev weights : List ℕ
         weights = pairs-of table
@@ -75,7 +75,7 @@ module _ (list library table : List ℕ) (room : ℕ) where
 
         pub weight-refused : every is-weight weights ≡ false → hand-run-over-c list library table room ≡ denies 22
         unfolding final-entries with-weights weight-places
-        weight-refused bad = under ∙ rw (eq-eqb (length weights) 13 (table-length table whole), bad) refl
+        weight-refused bad = under ∙ rw (eq-eqb (length weights) 15 (table-length table whole), bad) refl
 
         module _ (good : every is-weight weights ≡ true) where
           -- the entries after the hand run
@@ -94,7 +94,7 @@ module _ (list library table : List ℕ) (room : ℕ) where
 
           through : hand-run-over-c list library table room ≡ final-entries room (gives (sequential (context l weights) (numbers-of library)))
           unfolding with-weights weight-places
-          through = under ∙ rw (eq-eqb (length weights) 13 (table-length table whole), good) refl
+          through = under ∙ rw (eq-eqb (length weights) 15 (table-length table whole), good) refl
 
           pub result-refused : room < 4 * l .locations → hand-run-over-c list library table room ≡ denies 17
           unfolding final-entries

@@ -41,7 +41,7 @@ pub extern "C" fn preview_check(list: &[u8]) -> u32
 
 // Runs a list on the first `count` of the library's numbers, under those of the table.
 fn ran(list: &[u8], numbers: Numbers, table: Table) -> Opened
-    requires { ⌜ (length (numbers .values) ≡ 64) × (numbers .count ≤ 64) × (length (table .values) ≡ 13) × (table .count ≤ 13) ⌝ }
+    requires { ⌜ (length (numbers .values) ≡ 64) × (numbers .count ≤ 64) × (length (table .values) ≡ 15) × (table .count ≤ 15) ⌝ }
     ensures { λ r. ⌜ OpenedAs (now (list .entry)) (take (table .count) (table .values)) (sequential-asked (now (list .entry)) (take (numbers .count) (numbers .values)) (take (table .count) (table .values))) r ⌝ }
 {
     let values = numbers.values;

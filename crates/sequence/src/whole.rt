@@ -19,7 +19,7 @@ fn run_whole(
     order: &mut [u8; 128],
     task: usize,
     bodies: usize,
-    weights: [u16; 13],
+    weights: [u16; 15],
 ) -> Progress
     requires { ⌜ task < 128 ⌝ }
     ensures { λ r. ⌜ RunWhole bodies task (joined tables weights progress (now (memory .entry)) (now (modes .entry)) (now (order .entry))) (joined tables weights r (now (memory .exit)) (now (modes .exit)) (now (order .exit))) ⌝ }

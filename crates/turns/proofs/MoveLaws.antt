@@ -16,7 +16,6 @@ use Rattle.semantics.specs.Call.{or-same, taken, call, after}
 use Rattle.semantics.specs.Answers.{refusal-number, answer-number, outcome-number}
 use Rattle.semantics.specs.Turns.{next-action, next-call}
 use Rattle.semantics.proofs.Turns.{move-none, after-move-none, move-front, after-move-front, move-accepted}
-use Rattle.plans.specs.View.{Parts}
 use Rattle.plans.specs.View as Of
 use Rattle.plans.proofs.DecideLaws.{no-number, list-accepted, own-state}
 use Rattle.looks.specs.Looks.{finished, BodySize}
@@ -107,27 +106,6 @@ made-none : Made ≡ NoneLeft → ⊥
 unfolding move-number
 made-none q = let n = ap move-number q in omega (arith, n)
 
-refused-none : (k : CallRefusal) → Refused k ≡ NoneLeft → ⊥
-refused-none k q = none-refused k (sym q)
-
--- a run by its parts
-abbrev run-of : Parts → Run
-run-of p =
-    record {
-      tables = p .tables;
-      memory = p .memory;
-      records = p .records;
-      modes = p .modes;
-      order = p .order;
-      left = p .left;
-      calls = p .calls;
-      weight = p .weight;
-      weights = p .weights;
-    }
-
-same-run : (a b : Run) → parts-of a ≡ parts-of b → a ≡ b
-same-run a b q = ap run-of q
-
 -- the first of some places
 front : (o : List ℕ) (left : ℕ) → 0 < length o → (left ≡ 0 → ⊥) → (rest : List ℕ) × (take left o ≡ getD o 0 0 ∷ rest)
 front [] left l h = let z : ⊥ = omega arith in absurd z
@@ -194,18 +172,17 @@ module _ (run : Run) where
           refused = λ k p. absurd (made-refused k p);
         }
 
-    pub moved-refused :
-        (k : CallRefusal) → done .answer ≡ Answers.Refused k → MovedAs run (record { answer = Refused k; run = done .run })
+    pub moved-refused : (k : CallRefusal) → done .answer ≡ Answers.Refused k → MovedAs run (record { answer = Refused k; run = run })
     moved-refused k q =
         record {
           answer = λ s. absurd (never s);
           run = λ s. absurd (never s);
-          sound = h .sound;
+          sound = λ s. s;
           only-refusal = λ s j p. never s;
-          list = h .list;
-          weights = h .weights;
-          none-left = λ p. absurd (refused-none k p);
-          refused = λ j p. same-run (done .run) run (h .refused k q);
+          list = refl;
+          weights = refl;
+          none-left = λ p. refl;
+          refused = λ j p. refl;
         }
       where
         never : SoundRun run → ⊥

@@ -47,7 +47,7 @@ pub fn foremost_move(run: Run) -> Moved
         },
         Answer::Refused { refusal } => Moved {
             answer: MoveAnswer::Refused { refusal },
-            run: next,
+            run,
         },
     }
 }

@@ -1,5 +1,5 @@
 // The coordinator: opens a run of jobs.bin and library.bin, makes the calls of standard input and prints a line for each.
-// It only moves bytes; what it prints comes from the crate `transcript`.
+// It only moves bytes; what it prints comes from the crates `wording` and `transcript`.
 ghost use Prim.Native.Nat.{_+_, _*_, _/_, _≤_};
 ghost use mathlib.Core.Path.{_≡_};
 ghost use lib.ListN.{length, take};
@@ -12,7 +12,7 @@ use runtime::OpenAnswer;
 use runtime::Run;
 use tasklist::Refusal;
 use transcript::Fed;
-use transcript::Pending;
+use wording::Pending;
 
 // What came of reading a file.
 enum FileRead {
@@ -119,9 +119,9 @@ fn take_turn(run: Run, pending: Pending) -> Turn {
 // What is printed at the input's end.
 fn finish(run: Run, pending: Pending) {
     let mut out = [0u8; 1024];
-    let half = transcript::half_line(pending, &mut out);
+    let half = wording::half_line(pending, &mut out);
     io::write_all(STDOUT_FILENO, &out[..half]);
-    let rest = transcript::closing_lines(run, &mut out);
+    let rest = wording::closing_lines(run, &mut out);
     io::write_all(STDOUT_FILENO, &out[..rest]);
 }
 
@@ -150,15 +150,15 @@ fn main() {
     let listed = size_of(list);
     let mut numbers = [0u8; 257];
     let count = size_of(read_file(b"library.bin", &mut numbers));
-    let opened = transcript::open_files(&jobs[..listed], &numbers[..count]);
+    let opened = wording::open_files(&jobs[..listed], &numbers[..count]);
     let answered = opened.answer;
     let answer = answer_of(list, answered);
-    if transcript::open_number(answer) == 0 {
+    if wording::open_number(answer) == 0 {
         let run = opened.run;
         serve(run);
         return;
     }
     let mut out = [0u8; 16];
-    let n = transcript::open_line(answer, &mut out);
+    let n = wording::open_line(answer, &mut out);
     io::write_all(STDOUT_FILENO, &out[..n]);
 }

@@ -1,7 +1,4 @@
 -- Laws that the proofs of the functions cite, the law of the whole transcript, and document 01's example.
-pub mod DigitLaws
 pub mod PieceLaws
-pub mod ClosingLaws
-pub mod OpeningLaws
 pub mod Whole
 pub mod Example

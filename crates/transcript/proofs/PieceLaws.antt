@@ -21,20 +21,13 @@ use Rattle.lent.proofs.PieceLaws.{false-true}
 use Rattle.lent.specs.declared.Lent.{Lent}
 use Rattle.lent.specs.Lines.{calls-in, lines}
 use Rattle.lent.specs.Pieces.{LentOf}
-use Rattle.transcript.specs.declared.Pending.{Pending}
-use Rattle.transcript.specs.declared.Pending.the-variants.{Nothing, Kind}
+use Rattle.wording.specs.declared.Pending.{Pending}
+use Rattle.wording.specs.declared.Pending.the-variants.{Nothing, Kind}
+use Rattle.wording.specs.Wording.{line}
+use Rattle.wording.specs.Promises.{Wrote}
+use Rattle.wording.proofs.ClosingLaws.{wrote-none, wrote-all}
 use Rattle.transcript.specs.declared.Joined.{Joined}
-use Rattle.transcript.specs.Transcript.{line}
-use Rattle.transcript.specs.Promises.{Wrote, whole-of, half-of, pending-bytes, JoinedAs, exceeds, used-of, FedWith, FedAs}
-use Rattle.transcript.proofs.DigitLaws.{digits-two, digits-three, followed-length}
-use Rattle.transcript.proofs.ClosingLaws.{wrote-none, wrote-all}
-
--- a line of a call has at most 3 bytes, one of any byte at most 4
-pub line-most : (n : ℕ) → n ≤ 22 → length (line n) ≤ 3
-line-most n h = omega (arith, followed-length n 10, digits-two n (omega arith))
-
-pub byte-line-most : (n : ℕ) → n < 256 → length (line n) ≤ 4
-byte-line-most n h = omega (arith, followed-length n 10, digits-three n (omega arith))
+use Rattle.transcript.specs.Promises.{whole-of, half-of, pending-bytes, JoinedAs, exceeds, used-of, FedWith, FedAs}
 
 -- The calls that are whole, and the byte left over
 pub half-even : (l : List ℕ) → length l % 2 ≡ 0 → half-of l ≡ []

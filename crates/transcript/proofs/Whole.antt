@@ -25,12 +25,14 @@ use Rattle.runtime.proofs.ViewLaws.{same-context}
 use Rattle.runtime.proofs.MadeLaws.{after-append}
 use Rattle.lent.specs.Lines.{calls-in, lines}
 use Rattle.lent.specs.Lines as Called
-use Rattle.transcript.specs.declared.Pending.{Pending}
-use Rattle.transcript.specs.declared.Pending.the-variants.{Nothing, Kind}
+use Rattle.wording.specs.declared.Pending.{Pending}
+use Rattle.wording.specs.declared.Pending.the-variants.{Nothing, Kind}
+use Rattle.wording.specs.Wording.{line, closing, refused-line}
+use Rattle.wording.specs.Promises.{given, Wrote, open-bytes, half-bytes}
+use Rattle.wording.proofs.ClosingLaws.{with-room}
 use Rattle.transcript.specs.declared.Fed.{Fed}
-use Rattle.transcript.specs.Transcript.{line, closing, lines-from, refused-line, printed, transcript}
-use Rattle.transcript.specs.Promises.{given, Wrote, open-bytes, whole-of, half-of, pending-bytes, half-bytes, FedAs}
-use Rattle.transcript.proofs.ClosingLaws.{with-room}
+use Rattle.transcript.specs.Transcript.{lines-from, printed, transcript}
+use Rattle.transcript.specs.Promises.{whole-of, half-of, pending-bytes, FedAs}
 use Rattle.transcript.proofs.PieceLaws.{exceeds-none, used-all}
 
 -- these bytes were written at the front of a lent slice that has room for them, and then printed

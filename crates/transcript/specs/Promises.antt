@@ -1,36 +1,21 @@
--- What the functions promise: what they write into a lent slice, and what a piece of the input comes to.
-use Prim.Native.Nat.{ℕ, zero, suc, _+_, _*_, _/_, _≤_}
+-- What the functions promise: what a piece of the input comes to.
+use Prim.Native.Nat.{ℕ, _+_, _*_, _/_, _≤_}
 use mathlib.Core.Path.{_≡_}
 use mathlib.Core.List.{List, [], _∷_, _++_}
 use mathlib.Core.Bool.{Bool, cond, _||_}
 use lib.ListN.{length, take, drop}
-use lib.Dec.{leb, ltb}
+use lib.Dec.{ltb}
 use Rattle.tasklist.specs.Encode.{joined}
 use Rattle.runtime.specs.declared.Run.{Run}
 use Rattle.runtime.specs.View.{model, context-of, SoundRun}
 use Rattle.runtime.specs.Calls.{CallsMade}
 use Rattle.lent.specs.Lines.{calls-in, lines}
-use Rattle.transcript.specs.declared.Pending.{Pending}
-use Rattle.transcript.specs.declared.Pending.the-variants.{Nothing, Kind}
+use Rattle.wording.specs.declared.Pending.{Pending}
+use Rattle.wording.specs.declared.Pending.the-variants.{Nothing, Kind}
+use Rattle.wording.specs.Wording.{line}
+use Rattle.wording.specs.Promises.{Wrote}
 use Rattle.transcript.specs.declared.Joined.{Joined}
 use Rattle.transcript.specs.declared.Fed.{Fed}
-use Rattle.transcript.specs.Transcript.{line, refused-line}
-
--- these bytes where the slice has so many places, else none
-unfoldable pub given : ℕ → List ℕ → List ℕ → List ℕ
-given room out bytes = cond (leb room (length out)) bytes []
-
--- the line of a failed open; none where it accepts, which is 0
-unfoldable pub open-bytes : ℕ → List ℕ
-open-bytes zero = []
-open-bytes (suc k) = refused-line (suc k)
-
--- n bytes were written at the front of a lent slice, and the rest of it is as it was
-pub record Wrote (bytes before after : List ℕ) (n : ℕ) : Type 0 where
-  pub count : n ≡ length bytes
-  pub places : after ≡ bytes ++ drop (length bytes) before
-  pub within : n ≤ length after
-  pub whole : n ≡ length (take n after)
 
 -- The calls that are whole in these bytes, and the byte left over, if there is one.
 unfoldable pub whole-of : List ℕ → List ℕ
@@ -47,11 +32,6 @@ half-of (kind ∷ n ∷ input) = half-of input
 unfoldable pub pending-bytes : Pending → List ℕ
 pending-bytes Nothing = []
 pending-bytes (Kind k) = k ∷ []
-
--- "half a call: 18"
-unfoldable pub half-bytes : Pending → List ℕ
-half-bytes Nothing = []
-half-bytes (Kind k) = line 18
 
 -- these bytes stand at the front of an array
 pub record JoinedAs (bytes : List ℕ) (r : Joined) : Type 0 where

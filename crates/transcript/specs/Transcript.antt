@@ -1,10 +1,6 @@
--- What the coordinator prints: document 01, "Publishing examples", its last paragraph. Bytes are numbers: 10 is a line feed,
--- 32 a space, 48 the digit 0.
-use Prim.Native.Nat.{ℕ, zero, suc, _+_, _/_, _%_}
-use mathlib.Core.List.{List, [], _∷_, _++_}
-use mathlib.Core.Bool.{cond}
-use lib.ListN.{length}
-use lib.Dec.{ltb}
+-- What the coordinator prints: document 01, "Publishing examples", its last paragraph.
+use Prim.Native.Nat.{ℕ}
+use mathlib.Core.List.{List, _++_}
 use Rattle.tasklist.specs.Decode.{decode}
 use Rattle.tasklist.specs.Encode.{joined}
 use Rattle.library.specs.Library.{memory-of}
@@ -12,40 +8,12 @@ use Rattle.semantics.specs.Run.{Run, Context, fixed-weights, initial}
 use Rattle.semantics.specs.Call.{after-all}
 use Rattle.semantics.specs.Operations.{Asked, denies, gives, with-list}
 use Rattle.lent.specs.Lines.{calls-in, lines}
-
--- the digits of a number, with so many steps to spare
-unfoldable pub digits-within : ℕ → ℕ → List ℕ
-digits-within zero n = []
-digits-within (suc k) n = cond (ltb n 10) ((48 + n) ∷ []) (digits-within k (n / 10) ++ ((48 + n % 10) ∷ []))
-
--- a number in decimal, with no zero in front
-unfoldable pub digits : ℕ → List ℕ
-digits n = digits-within (suc n) n
-
--- a number and the byte behind it
-unfoldable pub followed : ℕ → ℕ → List ℕ
-followed n behind = digits n ++ (behind ∷ [])
-
--- a number on a line of its own
-abbrev pub line : ℕ → List ℕ
-line n = followed n 10
-
--- "last calls, weight and jobs left"
-unfoldable pub totals : ℕ → ℕ → ℕ → List ℕ
-totals calls weight left = followed calls 32 ++ followed weight 32 ++ line left
-
--- "each entry on a line; last calls, weight and jobs left"
-unfoldable pub closing : Run → List ℕ
-closing r = joined line (r .memory) ++ totals (r .calls) (r .weight) (length (r .order))
+use Rattle.wording.specs.Wording.{line, closing, refused-line}
 
 -- "one line per call, 0 or the refusal (another kind, or half a call: 18)", then what closes the transcript of the run that
 -- the calls leave
 unfoldable pub lines-from : Context → Run → List ℕ → List ℕ
 lines-from c r input = joined line (lines c r input) ++ closing (after-all c r (calls-in input))
-
--- "A failed open prints one line, as `refused 1`."
-unfoldable pub refused-line : ℕ → List ℕ
-refused-line k = 114 ∷ 101 ∷ 102 ∷ 117 ∷ 115 ∷ 101 ∷ 100 ∷ 32 ∷ line k
 
 -- the line of a failed open, "Else" the lines of the run
 unfoldable pub printed : Asked (List ℕ) → List ℕ

@@ -1,12 +1,7 @@
-// What the coordinator prints, on byte slices: the line of a refused open, the line of each call, and the closing lines.
-// The program above it only moves bytes.
+// What the coordinator prints, on byte slices: the line of each call, between those of the crate `wording`. The program above it
+// only moves bytes.
 use runtime::Run;
-
-// The byte that a piece of input ends with, where it is the first of a call.
-pub enum Pending {
-    Nothing,
-    Kind(u8),
-}
+use wording::Pending;
 
 // The pending byte and a piece of input behind it: so many bytes at the front.
 pub struct Joined {
@@ -23,14 +18,6 @@ pub struct Fed {
     pub wrote: usize,
 }
 
-mod closing;
-mod decimal;
-mod opening;
 mod pieces;
 
-pub use closing::closing_lines;
-pub use closing::half_line;
-pub use opening::open_files;
-pub use opening::open_line;
-pub use opening::open_number;
 pub use pieces::feed;

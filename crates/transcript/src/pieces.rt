@@ -5,13 +5,13 @@ ghost use mathlib.Core.List.{[], _∷_, _++_};
 ghost use lib.ListN.{length, take};
 ghost use lib.Seq.{sets};
 ghost use Rattle.tasklist.specs.Encode.{joined};
-ghost use Rattle.transcript.specs.Transcript.{line};
+ghost use Rattle.wording.specs.Wording.{line};
 ghost use Rattle.transcript.specs.Promises.{JoinedAs, exceeds, half-of, pending-bytes, FedAs};
 use crate::Fed;
 use crate::Joined;
-use crate::Pending;
-use crate::decimal::put_followed;
 use runtime::Run;
+use wording::Pending;
+use wording::put_followed;
 
 // A piece from place `from` of an array on, 0 or 1, with the byte `first` in front where that is 1.
 fn copied(first: u8, from: usize, piece: &[u8]) -> Joined

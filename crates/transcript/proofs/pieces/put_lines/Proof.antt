@@ -7,9 +7,9 @@ use lib.ListN.{length, take}
 use lib.Seq.{sets, length-sets}
 use denote.Ref.{now}
 use Rattle.tasklist.specs.Encode.{joined}
-use Rattle.transcript.specs.Transcript.{line}
-use Rattle.transcript.proofs.ClosingLaws.{Lined, lined-none, lined-more}
-use Rattle.transcript.proofs.PieceLaws.{byte-line-most}
+use Rattle.wording.specs.Wording.{line}
+use Rattle.wording.proofs.DigitLaws.{byte-line-most}
+use Rattle.wording.proofs.ClosingLaws.{Lined, lined-none, lined-more}
 use borrow.Author.Needs.{needs}
 use Rattle.transcript.proofs.pieces.put_lines.Statement.{statement}
 use Rattle.transcript.proofs.pieces.put_lines.Tie as tie

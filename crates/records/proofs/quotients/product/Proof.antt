@@ -15,7 +15,9 @@ mul-n c =
     record { fits = omega (arith, h) }
 
 divided-requires : tie.Need-divided-requires
-divided-requires c κs = product-fits (c .args .left) (c .args .right) (search needs) (search needs)
+divided-requires c κs =
+    let h = product-fits (c .args .left) (c .args .right) (search needs) (search needs) in
+    omega (arith, h)
 
 returns : tie.Need-returns
 returns c = search needs

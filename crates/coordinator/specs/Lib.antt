@@ -1,2 +1,2 @@
--- What the program's functions say of the files that they read.
+-- What the program's functions say of the file of the job list.
 pub mod Files

@@ -2,10 +2,15 @@
 // It only moves bytes; what it prints comes from the crates `wording` and `transcript`.
 ghost use Prim.Native.Nat.{_+_, _*_, _/_, _≤_};
 ghost use mathlib.Core.Path.{_≡_};
-ghost use lib.ListN.{length, take};
+ghost use lib.ListN.{length};
 ghost use Rattle.transcript.specs.Promises.{FedAs};
 ghost use Rattle.runtime.specs.Asked.{open-number};
-ghost use Rattle.coordinator.specs.Files.{size-of, number-of, Within};
+ghost use Rattle.coordinator.specs.Files.{number-of};
+use host_files::FileRead;
+use host_files::LIBRARY_ROOM;
+use host_files::LIST_ROOM;
+use host_files::read_file;
+use host_files::size_of;
 use libc::STDIN_FILENO;
 use libc::STDOUT_FILENO;
 use runtime::OpenAnswer;
@@ -14,61 +19,11 @@ use tasklist::Refusal;
 use transcript::Fed;
 use wording::Pending;
 
-// What came of reading a file.
-enum FileRead {
-    // It is missing, or an error came while it was read.
-    Unreadable,
-    // So many bytes from its start: all of it, unless the buffer is full.
-    Bytes(usize),
-}
-
 // A turn of the loop: the run and the pending byte after a piece of the input, and whether there was one.
 struct Turn {
     run: Run,
     pending: Pending,
     more: bool,
-}
-
-// Reads a file that is open, up to its end or the buffer's.
-fn read_open(file: i32, buf: &mut [u8]) -> FileRead
-    ensures { λ r. ⌜ Within r (now (buf .exit)) ⌝ }
-{
-    let mut done = 0;
-    while done < buf.len() {
-        let got = libc::read(file, &mut buf[done..]);
-        if got < 0 {
-            return FileRead::Unreadable;
-        }
-        let n = io::count(got, &buf[done..]);
-        if n == 0 {
-            return FileRead::Bytes(done);
-        }
-        done += n;
-    }
-    FileRead::Bytes(done)
-}
-
-// Reads the file of a name from its start.
-fn read_file(name: &[u8], buf: &mut [u8]) -> FileRead
-    ensures { λ r. ⌜ Within r (now (buf .exit)) ⌝ }
-{
-    let file = os::open_read(name);
-    if file < 0 {
-        return FileRead::Unreadable;
-    }
-    let read = read_open(file, buf);
-    libc::close(file);
-    read
-}
-
-// "an unreadable file counts as empty"; of an unreadable jobs.bin nothing is used.
-fn size_of(read: FileRead) -> usize
-    ensures { λ r. ⌜ r ≡ size-of read ⌝ }
-{
-    match read {
-        FileRead::Unreadable => 0,
-        FileRead::Bytes(n) => n,
-    }
 }
 
 // What open answers, by how jobs.bin was read: 1 where it can't be.
@@ -143,12 +98,11 @@ fn serve(run: Run) {
     finish(r, pending);
 }
 
-// One byte more than the longest list and than the longest library, so that a longer file shows.
 fn main() {
-    let mut jobs = [0u8; 4806];
+    let mut jobs = [0u8; LIST_ROOM];
     let list = read_file(b"jobs.bin", &mut jobs);
     let listed = size_of(list);
-    let mut numbers = [0u8; 257];
+    let mut numbers = [0u8; LIBRARY_ROOM];
     let count = size_of(read_file(b"library.bin", &mut numbers));
     let opened = wording::open_files(&jobs[..listed], &numbers[..count]);
     let answered = opened.answer;

@@ -1,7 +1,7 @@
 -- Each part of a buffer that is lent is what was read into it.
 -- Assumes nothing.
 use borrow.Author.Needs.{needs}
-use Rattle.coordinator.proofs.FileLaws.{read-whole}
+use Rattle.host_files.proofs.FileLaws.{read-whole}
 use Rattle.coordinator.proofs.main.Statement.{statement}
 use Rattle.coordinator.proofs.main.Tie as tie
 

@@ -4,10 +4,10 @@ use Prim.Native.Nat.{_-_, _≤_}
 use mathlib.Core.Path.{_≡_}
 use lib.ListN.{length}
 use borrow.Rule.Slice.PartMut.{putMid}
-use Rattle.coordinator.proofs.FileLaws.{within}
+use Rattle.host_files.proofs.FileLaws.{within}
 use borrow.Author.Needs.{needs}
-use Rattle.coordinator.proofs.read_open.Statement.{statement}
-use Rattle.coordinator.proofs.read_open.Tie as tie
+use Rattle.host_files.proofs.read_open.Statement.{statement}
+use Rattle.host_files.proofs.read_open.Tie as tie
 
 abbrev Inv-loop : tie.InvT-loop
 Inv-loop file buf₀ done₀ buf done = (done ≤ length buf) × (length buf ≡ length buf₀)

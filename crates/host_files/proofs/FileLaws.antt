@@ -4,9 +4,9 @@ use mathlib.Core.Path.{_≡_, sym, ap, _∙_}
 use mathlib.Core.List.{List}
 use lib.ListN.{length, take}
 use lib.Seq.{length-take-le}
-use Rattle.coordinator.specs.declared.FileRead.the-variants.{Bytes}
-use Rattle.coordinator.specs.declared.FileRead.{FileRead}
-use Rattle.coordinator.specs.Files.{size-of, Within}
+use Rattle.host_files.specs.declared.FileRead.the-variants.{Bytes}
+use Rattle.host_files.specs.declared.FileRead.{FileRead}
+use Rattle.host_files.specs.Files.{size-of, Within}
 
 pub within : (n : ℕ) (buffer : List ℕ) → n ≤ length buffer → Within (Bytes n) buffer
 within n buffer h = record { most = h; whole = sym (length-take-le n buffer h) }

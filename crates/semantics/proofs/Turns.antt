@@ -31,7 +31,7 @@ use Rattle.semantics.proofs.Sequential.{Foremost, Makes, after-call, be
 use Rattle.semantics.proofs.Reached.{ended-stays, reach-ended}
 
 -- r is reached from s by some accepted calls
-abbrev Led : Context → Run → Run → Type 0
+abbrev pub Led : Context → Run → Run → Type 0
 Led c s r = (m : ℕ) × Reach (call c) r m s
 
 refused-same : (c : Context) (r : Run) (b : Call) → call c r b ≡ none → after c r b ≡ r
@@ -43,7 +43,7 @@ module _ (c : Context) where
   led-call zero s r r′ b q e = (b, r′, ap (λ x. call c x b) q ∙ e, refl)
   led-call (suc m) s r r′ b q e = (q .0, q .1, q .2, led-call m (q .1) r r′ b (q .3) e)
 
-  led-after : (s r : Run) (b : Call) → Led c s r → Led c s (after c r b)
+  pub led-after : (s r : Run) (b : Call) → Led c s r → Led c s (after c r b)
   led-after s r b h = look (call c r b) refl
     where
       look : (o : Option Run) → call c r b ≡ o → Led c s (after c r b)
@@ -129,7 +129,7 @@ first-ends n b bs h = (
 
 module _ (c : Context) (ok : Accepted (c .list)) where
   -- the move
-  next-accepted :
+  pub next-accepted :
       (r : Run) (n : ℕ) (rest : List ℕ) → Valid c r → r .order ≡ n ∷ rest
       → (e : Effect) × Accepts c r (next-call c r n) e
   next-accepted r n rest v q = sort (v .active n here)

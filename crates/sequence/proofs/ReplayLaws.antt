@@ -92,13 +92,13 @@ pub record Fresh (bytes memory weights : List ℕ) (o : Opened) : Type 0 where
   pub sound : SoundRun (o .run)
 
 module _ (bytes memory weights : List ℕ) where
-  abbrev asked : (Context → Semantics.Run) → Asked Semantics.Run
-  asked f = with-list (decode bytes) memory weights f
+  abbrev asked : (A : Type 0) → (Context → A) → Asked A
+  asked A f = with-list (decode bytes) memory weights f
 
   -- open refused, or gave a fresh run; the same of whatever else is asked of the list
-  pub data OpenCase (o : Opened) : Type 0 where
-    unopened : (k : ℕ) → Unopened k o → ((f : Context → Semantics.Run) → asked f ≡ denies k) → OpenCase o
-    fresh : Fresh bytes memory weights o → ((f : Context → Semantics.Run) → asked f ≡ gives (f (context-of (o .run)))) → OpenCase o
+  pub data OpenCase (o : Opened) : Type 1 where
+    unopened : (k : ℕ) → Unopened k o → ((A : Type 0) (f : Context → A) → asked A f ≡ denies k) → OpenCase o
+    fresh : Fresh bytes memory weights o → ((A : Type 0) (f : Context → A) → asked A f ≡ gives (f (context-of (o .run)))) → OpenCase o
 
   module _ (o : Opened) (h : OpenedAs bytes weights (open-asked bytes memory weights) o) where
     pub open-case : OpenCase o
@@ -107,7 +107,7 @@ module _ (bytes memory weights : List ℕ) where
       where
         sort : AskedCase bytes memory weights → OpenCase o
         sort (denied k some e) =
-            unopened k (subst (λ a. OpenedAs bytes weights a o) (e Semantics.Run (λ c. initial c memory)) h) (e Semantics.Run)
+            unopened k (subst (λ a. OpenedAs bytes weights a o) (e Semantics.Run (λ c. initial c memory)) h) e
         sort (given l q fits ok e) =
             let given-run = subst (λ a. OpenedAs bytes weights a o) (e Semantics.Run (λ c. initial c memory)) h in
             let same : list-of (o .run .tables) ≡ l = accepted-same (list-of (o .run .tables)) l (sym (given-run .list) ∙ q) in
@@ -121,26 +121,26 @@ module _ (bytes memory weights : List ℕ) where
               table = given-run .table;
               sound = given-run .sound;
             })
-            (λ f. e Semantics.Run f ∙ ap (λ c. gives (f c)) (sym under))
+            (λ A f. e A f ∙ ap (λ c. gives (f c)) (sym under))
 
     -- the run of a refused open is handed on
     pub still-unopened :
-        (f : Context → Semantics.Run) → o .run .left ≡ 0 → (k : ℕ) × (asked f ≡ denies k) × Unopened k o
-    still-unopened f z = sort open-case
+        {A : Type 0} (f : Context → A) → o .run .left ≡ 0 → (k : ℕ) × (asked A f ≡ denies k) × Unopened k o
+    still-unopened {A = A} f z = sort open-case
       where
-        sort : OpenCase o → (k : ℕ) × (asked f ≡ denies k) × Unopened k o
-        sort (unopened k u q) = (k, q f, u)
+        sort : OpenCase o → (k : ℕ) × (asked A f ≡ denies k) × Unopened k o
+        sort (unopened k u q) = (k, q A f, u)
         sort (fresh w q) = absurd (fresh-left (o .run) (context-of (o .run)) memory (w .run) z)
 
     -- else open gave a fresh run
     pub now-fresh :
-        (f : Context → Semantics.Run) → (o .run .left ≡ 0 → ⊥)
-        → Fresh bytes memory weights o × (asked f ≡ gives (f (context-of (o .run))))
-    now-fresh f z = sort open-case
+        {A : Type 0} (f : Context → A) → (o .run .left ≡ 0 → ⊥)
+        → Fresh bytes memory weights o × (asked A f ≡ gives (f (context-of (o .run))))
+    now-fresh {A = A} f z = sort open-case
       where
-        sort : OpenCase o → Fresh bytes memory weights o × (asked f ≡ gives (f (context-of (o .run))))
+        sort : OpenCase o → Fresh bytes memory weights o × (asked A f ≡ gives (f (context-of (o .run))))
         sort (unopened k u q) = absurd (z (ap (λ r. r .left) (u .run) ∙ blank-left))
-        sort (fresh w q) = (w, q f)
+        sort (fresh w q) = (w, q A f)
 
     -- replay's two answers
     module _ (calls : List Call) where
@@ -168,7 +168,7 @@ module _ (bytes memory weights : List ℕ) where
             sound = made .sound (w .0 .sound);
           })
         where
-          w : Fresh bytes memory weights o × (asked (λ c. initial c memory) ≡ gives (initial (context-of (o .run)) memory))
+          w : Fresh bytes memory weights o × (asked Semantics.Run (λ c. initial c memory) ≡ gives (initial (context-of (o .run)) memory))
           w = now-fresh (λ c. initial c memory) z
 
           list-kept : decode bytes ≡ accepted (list-of (r .tables))

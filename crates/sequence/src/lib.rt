@@ -13,5 +13,6 @@ pub struct Progress {
 mod replaying;
 mod whole;
 
+pub use replaying::all_called;
 pub use replaying::replay;
 pub use whole::sequential;

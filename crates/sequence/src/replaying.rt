@@ -26,7 +26,7 @@ fn called(run: Run, kind: u8, task: u32) -> Run
 }
 
 // As many calls as the shorter slice has, one after the other.
-fn all_called(run: Run, kinds: &[u8], tasks: &[u32]) -> Run
+pub fn all_called(run: Run, kinds: &[u8], tasks: &[u32]) -> Run
     ensures { λ r. ⌜ CallsMade (calls-of (now (kinds .entry)) (now (tasks .entry))) run r ⌝ }
 {
     let mut r = run;

@@ -314,10 +314,10 @@ holds-back (Planned.Make s f first k) = false
 
 -- the effect of a plan that is not held back
 module _ (run : Parts) (n w : ℕ) where
-  abbrev plan-effect : StepPlan → Effect
+  abbrev pub plan-effect : StepPlan → Effect
   plan-effect p = effect-in (own-effect (task-of (model run) n) false w) (planned run n w p)
 
-  accepted-plan : (p : StepPlan) → holds-back p ≡ false → planned run n w p ≡ accept (plan-effect p)
+  pub accepted-plan : (p : StepPlan) → holds-back p ≡ false → planned run n w p ≡ accept (plan-effect p)
   unfolding planned
   accepted-plan (Planned.Held k) h = absurd (false≢true (sym h))
   accepted-plan (Planned.Fault k) h = refl

@@ -3,10 +3,11 @@
 use Prim.Native.Nat.{ℕ, zero, suc, _<_}
 use mathlib.Core.Path.{_≡_, refl, sym, ap, _∙_}
 use mathlib.Core.List.{List, [], _∷_}
-use mathlib.Core.Bool.{Bool, true, false}
+use mathlib.Core.Bool.{Bool, true, false, cond}
 use native.Mathlib.Omega.{arith}
 use lib.ListN.{length, take, getD}
-use borrow.Author.Tests.{eq-eqb, ne-eqb}
+use lib.Dec.{eqb}
+use Rattle.semantics.specs.declared.Record.{Record}
 use Rattle.semantics.specs.declared.CallRefusal.{CallRefusal}
 use Rattle.semantics.specs.declared.CallRefusal.the-variants as Why
 use Rattle.semantics.specs.declared.Answer.the-variants as Answers
@@ -16,6 +17,7 @@ use Rattle.semantics.specs.Call.{or-same, taken, call, after}
 use Rattle.semantics.specs.Answers.{refusal-number, answer-number, outcome-number}
 use Rattle.semantics.specs.Turns.{next-action, next-call}
 use Rattle.semantics.proofs.Turns.{move-none, after-move-none, move-front, after-move-front, move-accepted}
+use Rattle.plans.specs.View.{Parts}
 use Rattle.plans.specs.View as Of
 use Rattle.plans.proofs.DecideLaws.{no-number, list-accepted, own-state}
 use Rattle.looks.specs.Looks.{finished, BodySize}
@@ -23,10 +25,50 @@ use Rattle.looks.proofs.LookLaws.{ends}
 use Rattle.runtime.specs.declared.Run.{Run}
 use Rattle.runtime.specs.declared.Called.{Called}
 use Rattle.runtime.specs.View.{parts-of, model, context-of, SoundRun}
-use Rattle.runtime.specs.Calls.{decided, CalledAs}
+use Rattle.plans.specs.Calls.{call-of}
+use Rattle.runtime.specs.Calls.{decided, CalledAs, calls-of-kind}
 use Rattle.runtime.specs.Parts.{record-of}
 use Rattle.turns.specs.declared.MoveAnswer.the-variants.{Made, NoneLeft, Refused}
-use Rattle.turns.specs.Moves.{move-number, MovedAs, NextCalled}
+use Rattle.turns.specs.Moves.{move-number, MovedAs, next-kind, kind-action, NextCalled}
+
+-- the kinds of the next call, by whether the task waits and whether it is at its end
+as-kind : (waits over : Bool) → cond waits start (cond over «end» step) ≡ kind-action (cond waits 0 (cond over 2 1))
+unfolding kind-action
+as-kind true over = refl
+as-kind false true = refl
+as-kind false false = refl
+
+third :
+    (waits over : Bool) → (_≡_ {A = ℕ} (cond waits 0 (cond over 2 1)) 0 → ⊥)
+    → (_≡_ {A = ℕ} (cond waits 0 (cond over 2 1)) 1 → ⊥) → kind-action (cond waits 0 (cond over 2 1)) ≡ «end»
+unfolding kind-action
+third true over p q = absurd (p refl)
+third false true p q = refl
+third false false p q = absurd (q refl)
+
+pub kind-calls :
+    (size : ℕ) (own : Record) (n : ℕ)
+    → calls-of-kind (next-kind size own) n ≡ call-of (kind-action (next-kind size own)) n ∷ []
+unfolding next-kind
+kind-calls size own n = sort (eqb (own .state) 1) (finished size own)
+  where
+    sort :
+        (waits over : Bool)
+        → calls-of-kind (cond waits 0 (cond over 2 1)) n ≡ call-of (kind-action (cond waits 0 (cond over 2 1))) n ∷ []
+    sort true over = unfold calls-of-kind kind-action in refl
+    sort false true = unfold calls-of-kind kind-action in refl
+    sort false false = unfold calls-of-kind kind-action in refl
+
+-- which call is next, by the task's own record
+pub kind-next :
+    (run : Parts) (n : ℕ) → n < 128 → (size : ℕ) (own : Record) → Of.record-of run n ≡ own → BodySize size own run
+    → Of.SoundRun run → next-action (Of.context-of run) (task-of (Of.model run) n) ≡ kind-action (next-kind size own)
+unfolding next-action next-kind
+kind-next run n below size own same fits s =
+    ap (λ k. cond (eqb k 1) start (cond (at-end (Of.context-of run) (task-of (Of.model run) n)) «end» step))
+    (own-state run n below s ∙ ap (λ (t : Record). t .state) same)
+    ∙ ap (λ b. cond (eqb (own .state) 1) start (cond b «end» step)) (sym (ends run n size own below same fits s))
+    ∙ as-kind (eqb (own .state) 1) (finished size own)
 
 -- The task's next call, in the code's terms.
 module _ (run : Run) (n : ℕ) (done : Called) where
@@ -54,31 +96,31 @@ module _ (run : Run) (n : ℕ) (done : Called) where
   next-no-number above h =
       alike start next (λ s. no-number (parts-of run) n start above ∙ sym (no-number (parts-of run) n next above)) h
 
-  module _ (below : n < 128) where
-    pub next-start : record-of run n .state ≡ 1 → CalledAs start run n done → NextCalled run n done
-    unfolding next-action
-    next-start q h =
-        by-record start (λ s. rw (eq-eqb (task-of (model run) n .state) 1 (own-state (parts-of run) n below s ∙ q)) refl) h
+  -- which call it is, by the kind
+  module _ (below : n < 128) (size : ℕ) (fits : BodySize size (record-of run n) (parts-of run)) where
+    abbrev kind : ℕ
+    kind = next-kind size (record-of run n)
 
-    module _
-        (begun : record-of run n .state ≡ 1 → ⊥) (size : ℕ) (fits : BodySize size (record-of run n) (parts-of run)) (b : Bool)
-        (is : b ≡ finished size (record-of run n))
-      where
-        started : SoundRun run → task-of (model run) n .state ≡ 1 → ⊥
-        started s q = begun (sym (own-state (parts-of run) n below s) ∙ q)
+    as-action : SoundRun run → next ≡ kind-action kind
+    as-action s = kind-next (parts-of run) n below size (record-of run n) refl fits s
 
-        at-its-end : SoundRun run → at-end (context-of run) (task-of (model run) n) ≡ b
-        at-its-end s = sym (is ∙ ends (parts-of run) n size (record-of run n) below refl fits s)
+    module _ (k : ℕ) (is : k ≡ kind) where
+      pub next-start : k ≡ 0 → CalledAs start run n done → NextCalled run n done
+      unfolding kind-action
+      next-start q h = by-record start (λ s. as-action s ∙ ap kind-action (sym is ∙ q)) h
 
-        pub next-end : b ≡ true → CalledAs «end» run n done → NextCalled run n done
-        unfolding next-action
-        next-end q h =
-            by-record «end» (λ s. rw (ne-eqb (task-of (model run) n .state) 1 (started s), at-its-end s ∙ q) refl) h
+      pub next-step : k ≡ 1 → CalledAs step run n done → NextCalled run n done
+      unfolding kind-action
+      next-step q h = by-record step (λ s. as-action s ∙ ap kind-action (sym is ∙ q)) h
 
-        pub next-step : b ≡ false → CalledAs step run n done → NextCalled run n done
-        unfolding next-action
-        next-step q h =
-            by-record step (λ s. rw (ne-eqb (task-of (model run) n .state) 1 (started s), at-its-end s ∙ q) refl) h
+      pub next-end : (k ≡ 0 → ⊥) → (k ≡ 1 → ⊥) → CalledAs «end» run n done → NextCalled run n done
+      unfolding next-kind
+      next-end p q h =
+          by-record «end»
+          (λ s.
+          as-action s
+          ∙ third (eqb (record-of run n .state) 1) (finished size (record-of run n)) (λ e. p (is ∙ e)) (λ e. q (is ∙ e)))
+          h
 
 -- no refusal of a call has the number 0 or 25
 refusal-range : (k : CallRefusal) → (0 < refusal-number k) × (refusal-number k < 25)

@@ -22,3 +22,4 @@ pub struct Moved {
 mod moves;
 
 pub use moves::foremost_move;
+pub use moves::next_kind;

@@ -1,12 +1,28 @@
 // The move: which task is the foremost, and which of start, step and end is its next call.
-ghost use Rattle.turns.specs.Moves.{NextCalled, MovedAs};
+ghost use mathlib.Core.Path.{_≡_};
+ghost use Rattle.turns.specs.Moves.{next-kind, NextCalled, MovedAs};
 use crate::MoveAnswer;
 use crate::Moved;
 use runtime::Called;
 use runtime::Run;
 use semantics::Answer;
+use semantics::Record;
 
-// The next call of a task: its start while it waits, then its steps, at its end its end.
+// Which call is the next one of a task with this record, whose body has so many instructions: 0 its start while it waits, then 1
+// its steps, at its end 2 its end.
+pub fn next_kind(own: Record, size: usize) -> u8
+    ensures { λ r. ⌜ r ≡ next-kind size own ⌝ }
+{
+    if own.state == 1 {
+        return 0;
+    }
+    if looks::at_end(own, size) {
+        return 2;
+    }
+    1
+}
+
+// The next call of a task.
 fn next_call(run: Run, task: u32) -> Called
     ensures { λ r. ⌜ NextCalled run task r ⌝ }
 {
@@ -15,15 +31,16 @@ fn next_call(run: Run, task: u32) -> Called
         return run.start(task);
     }
     let own = run.records[task as usize];
-    if own.state == 1 {
-        return run.start(task);
-    }
     let tables = run.tables;
     let size = listing::body_size(tables, own.body as usize);
-    if looks::at_end(own, size) {
-        return run.end(task);
+    let kind = next_kind(own, size);
+    if kind == 0 {
+        return run.start(task);
     }
-    run.step(task)
+    if kind == 1 {
+        return run.step(task);
+    }
+    run.end(task)
 }
 
 // The first side's move: 25 no task is left.

@@ -48,12 +48,17 @@ pub fn put_memory(run: Run, label: &[u8], out: &mut [u8; 4096], at: usize) -> us
     end_line(out, o)
 }
 
+// ` CALLS WEIGHT LEFT`
+pub fn put_counts(run: Run, out: &mut [u8; 4096], at: usize) -> usize {
+    let mut o = put_next(out, at, run.calls as u64);
+    o = put_next(out, o, run.weight as u64);
+    put_next(out, o, run.left as u64)
+}
+
 // `LABEL CALLS WEIGHT LEFT`
 pub fn put_totals(run: Run, label: &[u8], out: &mut [u8; 4096], at: usize) -> usize {
     let mut o = put_text(out, at, label);
-    o = put_next(out, o, run.calls as u64);
-    o = put_next(out, o, run.weight as u64);
-    o = put_next(out, o, run.left as u64);
+    o = put_counts(run, out, o);
     end_line(out, o)
 }
 

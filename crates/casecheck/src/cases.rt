@@ -1,4 +1,4 @@
-// A case: its calls on a fresh run, what is then asked of it, and the sequential run beside it.
+// A case: its calls on a fresh run, what is then asked of it, and the sequential run and the rounds beside it.
 use crate::Replayed;
 use crate::asks::put_memory;
 use crate::asks::put_record;
@@ -11,8 +11,12 @@ use crate::lent::put_list;
 use crate::lent::put_queues;
 use crate::lent::put_short_list;
 use crate::lent::put_short_queues;
+use crate::moves::put_moves;
 use crate::numbers::answer_number;
 use crate::numbers::open_number;
+use crate::rounds::put_rounds;
+use crate::rounds::put_unopened;
+use crate::searches::put_searches;
 use crate::text::end_line;
 use crate::text::put_next;
 use crate::text::put_text;
@@ -59,7 +63,9 @@ fn put_state(run: Run, out: &mut [u8; 4096], at: usize) -> usize {
     o = put_records(run, b"record", out, o);
     o = put_record(run, 128, b"record", out, o);
     o = put_list(run, out, o);
-    put_short_list(run, out, o)
+    o = put_short_list(run, out, o);
+    o = put_searches(run, out, o);
+    put_moves(run, out, o)
 }
 
 // The sequential run (document 01: the hand run).
@@ -93,13 +99,14 @@ fn put_opened(list: &[u8], memory: &[u32], calls: &[u8], out: &mut [u8; 4096], a
     o = put_next(out, o, k);
     o = end_line(out, o);
     if k != 0 {
-        return o;
+        return put_unopened(list, memory, out, o);
     }
     let fresh = opened.run;
     let done = replayed(fresh, calls, out, o);
     let run = done.run;
     o = put_state(run, out, done.at);
-    put_hand(by_hand(list, memory), out, o)
+    o = put_hand(by_hand(list, memory), out, o);
+    put_rounds(list, memory, out, o)
 }
 
 // All lines of a case.

@@ -10,7 +10,10 @@ mod asks;
 mod cases;
 mod file;
 mod lent;
+mod moves;
 mod numbers;
+mod rounds;
+mod searches;
 mod text;
 
 // Where a part of a case ends.
@@ -35,6 +38,12 @@ pub enum CaseEnds {
 pub struct Replayed {
     pub run: Run,
     pub at: usize,
+}
+
+// How many moves were made, and the run behind them.
+pub struct Played {
+    pub made: u64,
+    pub run: Run,
 }
 
 // The case from `at` on, whose parts end there.

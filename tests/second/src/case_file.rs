@@ -3,7 +3,10 @@
 use crate::cases::hex;
 use crate::coordinator::call;
 use crate::list::write;
-use crate::run::{hand_run, open, queue, record, Run, NEVER_MADE, RECORDS, TODAY};
+use crate::rounds::{foremost_move, rounds};
+use crate::run::{
+    footprint_of, hand_run, open, queue, record, search_modes, Run, NEVER_MADE, RECORDS, TODAY,
+};
 
 /// "at most 65,536 bytes in all"
 pub const MOST_BYTES: usize = 65_536;
@@ -13,6 +16,9 @@ const QUEUE_FILL: u16 = 43690;
 const WRITER_FILL: u8 = 170;
 /// "The longest list has 4,805 bytes."
 const LONGEST: usize = 4805;
+/// The numbers of workers that are asked for; where open refuses, only one of those that rounds takes.
+const WORKERS: [u32; 6] = [0, 1, 2, 3, 16, 17];
+const WORKERS_REFUSED: [u32; 3] = [0, 1, 17];
 
 /// One case: what open takes, then calls (kind, job).
 #[derive(Clone, Debug, PartialEq, Eq)]
@@ -102,6 +108,7 @@ pub fn cases_output(cases: &[Case]) -> String {
             Ok(run) => run,
             Err(refusal) => {
                 text.push_str(&format!("open {refusal}\n"));
+                rounds_lines(&mut text, case, &WORKERS_REFUSED);
                 continue;
             }
         };
@@ -124,11 +131,14 @@ pub fn cases_output(cases: &[Case]) -> String {
         }
         let written = writer_line(&mut text, "write", &run, LONGEST);
         writer_line(&mut text, "short", &run, written - 1);
+        search_lines(&mut text, &run);
+        move_lines(&mut text, &run);
         let hand = hand_run(&case.list, &case.library, &TODAY);
         let hand = hand.expect("open has accepted the same");
         text.push_str(&format!("hand {}\n", totals(&hand)));
         text.push_str(&format!("hand entries{}\n", words(&hand.memory)));
         record_lines(&mut text, "hand record", &hand);
+        rounds_lines(&mut text, case, &WORKERS);
     }
     text
 }
@@ -192,21 +202,94 @@ fn spoiled_line<T: PartialEq>(text: &mut String, kept: &[T], fill: T) {
 
 /// A line for each job that was made.
 fn record_lines(text: &mut String, word: &str, run: &Run) {
-    for task in 0..RECORDS as u32 {
-        let record = record(run, task).expect("a number up to 127");
-        if record.state == NEVER_MADE {
-            continue;
+    for task in 0..RECORDS {
+        if run.records[task].state != NEVER_MADE {
+            record_line(text, word, run, task);
         }
-        let modes: String = record.modes.iter().map(u8::to_string).collect();
-        text.push_str(&format!(
-            "{word} {task} {} {} {}{} {} {} {} {modes}\n",
-            record.state,
-            record.body,
-            record.pc,
-            words(&record.registers),
-            record.steps,
-            record.fault,
-            record.weight,
-        ));
+    }
+}
+
+fn record_line(text: &mut String, word: &str, run: &Run, task: usize) {
+    let record = record(run, task as u32).expect("a number up to 127");
+    let modes: String = record.modes.iter().map(u8::to_string).collect();
+    text.push_str(&format!(
+        "{word} {task} {} {} {}{} {} {} {} {modes}\n",
+        record.state,
+        record.body,
+        record.pc,
+        words(&record.registers),
+        record.steps,
+        record.fault,
+        record.weight,
+    ));
+}
+
+/// #103: the searches of each job in the order, then those of two that are refused.
+fn search_lines(text: &mut String, run: &Run) {
+    for task in &run.order {
+        search_line(text, run, *task as u32, &own_searches(run, *task));
+    }
+    let absent = (0..RECORDS).find(|task| !run.order.contains(task));
+    if let Some(task) = absent {
+        search_line(text, run, task as u32, &[Vec::new()]);
+    }
+    search_line(text, run, 128, &[Vec::new()]);
+}
+
+/// What a job's searches ask for: all entries of its footprint, then each by itself, in its own modes.
+fn own_searches(run: &Run, task: usize) -> Vec<Vec<(usize, u8)>> {
+    let modes = run.records[task].modes;
+    let footprint = footprint_of(run, task);
+    let own: Vec<(usize, u8)> = footprint.iter().map(|e| (*e, modes[*e])).collect();
+    let alone = own.iter().map(|asked| vec![*asked]);
+    std::iter::once(own.clone()).chain(alone).collect()
+}
+
+/// What each search finds and where it stops, or the refusal of all.
+fn search_line(text: &mut String, run: &Run, task: u32, searches: &[Vec<(usize, u8)>]) {
+    let found: Result<Vec<(u32, usize)>, u32> = searches
+        .iter()
+        .map(|asked| search_modes(run, task, asked))
+        .collect();
+    text.push_str(&format!("search {task}"));
+    match found {
+        Ok(found) => {
+            for (hold, looked) in found {
+                text.push_str(&format!(" {hold} {looked}"));
+            }
+        }
+        Err(refusal) => text.push_str(&format!(" refused {refusal}")),
+    }
+    text.push('\n');
+}
+
+/// #112: the foremost job's move on a copy of the run, then on another copy until it is refused.
+fn move_lines(text: &mut String, run: &Run) {
+    let mut moved = run.clone();
+    let answer = foremost_move(&mut moved).err().unwrap_or(0);
+    text.push_str(&format!("move {answer} {}\n", totals(&moved)));
+    text.push_str(&format!("move entries{}\n", words(&moved.memory)));
+    if let Some(foremost) = run.order.first() {
+        record_line(text, "move record", &moved, *foremost);
+    }
+    let mut moved = run.clone();
+    let mut count = 0;
+    while foremost_move(&mut moved).is_ok() {
+        count += 1;
+    }
+    text.push_str(&format!("moves {count} {}\n", totals(&moved)));
+    text.push_str(&format!("moves entries{}\n", words(&moved.memory)));
+}
+
+/// #111: the report for each of these numbers of workers: rounds, calls, span.
+fn rounds_lines(text: &mut String, case: &Case, workers: &[u32]) {
+    for workers in workers {
+        match rounds(*workers, &case.list, &case.library, &TODAY) {
+            Ok(report) => text.push_str(&format!(
+                "rounds {workers} {} {} {}\n",
+                report.rounds, report.calls, report.span
+            )),
+            Err(refusal) => text.push_str(&format!("rounds {workers} refused {refusal}\n")),
+        }
     }
 }

@@ -6,8 +6,9 @@ use crate::list::{
     TaskList, COUNT_CAP,
 };
 use crate::rng::Rng;
-use crate::run::{at_its_end, line_mode, product, quotient, test_end, test_start, test_step, Run};
-use crate::run::{NONE, READ, SUM, TODAY, WAITING, WEIGHTS, WRITE};
+use crate::rounds::{next_call_of, would_be_accepted};
+use crate::run::{at_its_end, line_mode, product, quotient, Run};
+use crate::run::{NONE, READ, SUM, TODAY, WEIGHTS, WRITE};
 
 /// P of "Publishing examples", byte by byte.
 pub const EXAMPLE_P: [u8; 54] = [
@@ -1274,17 +1275,6 @@ pub const STRATEGIES: [Strategy; 6] = [
     Strategy::LateEnds,
 ];
 
-/// The kind of an unended job's only possible next call; it may be held back.
-fn next_kind(run: &Run, task: usize) -> u8 {
-    if run.records[task].state == WAITING {
-        0
-    } else if at_its_end(run, task) {
-        2
-    } else {
-        1
-    }
-}
-
 /// An accepted call, none when there is none: each job's only possible next call, in the order that
 /// the strategy prefers.
 pub fn sensible_call(rng: &mut Rng, strategy: Strategy, run: &Run, last: u32) -> Option<(u8, u32)> {
@@ -1306,26 +1296,17 @@ pub fn sensible_call(rng: &mut Rng, strategy: Strategy, run: &Run, last: u32) ->
             tasks.sort_by_key(|task| at_its_end(run, *task));
         }
     }
-    for task in tasks {
-        let number = task as u32;
-        let kind = next_kind(run, task);
-        let answer = match kind {
-            0 => test_start(run, number),
-            1 => test_step(run, number),
-            _ => test_end(run, number),
-        };
-        if answer.is_ok() {
-            return Some((kind, number));
-        }
-    }
-    None
+    tasks
+        .into_iter()
+        .map(|task| next_call_of(run, task))
+        .find(|call| would_be_accepted(run, *call))
 }
 
 /// Any call, mostly one that is refused.
 pub fn any_call(rng: &mut Rng, run: &Run) -> (u8, u32) {
     if rng.percent(30) && !run.order.is_empty() {
         let task = rng.pick(&run.order);
-        return (next_kind(run, task), task as u32);
+        return next_call_of(run, task);
     }
     let kind = rng.below(3) as u8;
     let task = match rng.below(11) {
@@ -1413,14 +1394,67 @@ pub fn run_case(rng: &mut Rng) -> (Vec<u8>, Vec<u8>, Vec<u8>) {
         jobs = list_case(rng);
     }
     if rng.percent(3) {
-        match rng.below(3) {
-            0 => library.push(0),
-            1 => library.truncate(library.len() - 1),
-            _ => library.clear(),
-        }
+        spoil_library(rng, &mut library);
     }
     let input = random_input(rng, &jobs, &library);
     (jobs, library, input)
+}
+
+/// A shape of lists whose jobs work beside one another: few kinds of jobs, many of them, mostly of entries of
+/// their own.
+fn parallel_shape(rng: &mut Rng) -> Shape {
+    Shape {
+        locations: rng.pick(&[2, 4, 8, 16, 24]),
+        footprints: rng.between(2, 6),
+        bodies: rng.between(2, 5),
+        lines: rng.between(1, 3),
+        instructions: rng.between(3, 14),
+        full: rng.percent(40),
+        spawn_percent: rng.pick(&[20, 40, 60]),
+        fan_percent: rng.pick(&[0, 30, 60, 90]),
+        sum_percent: rng.pick(&[0, 20, 60]),
+        rate_percent: rng.pick(&[0, 5]),
+        tame_percent: rng.pick(&[85, 98, 100]),
+        root_limit: rng.pick(&[8, 20, 40, 128]),
+        other_limit: rng.pick(&[1, 4, 12]),
+        fill: rng.percent(40),
+    }
+}
+
+/// The two files of a case for the rounds: jobs.bin, library.bin. Mostly accepted, with several jobs that work
+/// beside one another; some lists are of any shape, empty or damaged, some libraries don't fit.
+pub fn rounds_case(rng: &mut Rng) -> (Vec<u8>, Vec<u8>) {
+    let jobs = match rng.below(20) {
+        0..=13 => encode(&parallel_list(rng)),
+        14..=17 => accepted_file(rng),
+        _ => list_case(rng),
+    };
+    let locations = decode(&jobs).map_or(1, |list| list.locations);
+    let mut library = library_bytes(&random_library(rng, locations));
+    if rng.percent(3) {
+        spoil_library(rng, &mut library);
+    }
+    (jobs, library)
+}
+
+/// A list of such a shape, with at least four jobs.
+fn parallel_list(rng: &mut Rng) -> TaskList {
+    loop {
+        let shape = parallel_shape(rng);
+        let list = list_of_shape(rng, &shape);
+        if task_count(&list, 0) >= 4 {
+            return list;
+        }
+    }
+}
+
+/// A library.bin of a length that doesn't fit.
+fn spoil_library(rng: &mut Rng, library: &mut Vec<u8>) {
+    match rng.below(3) {
+        0 => library.push(0),
+        1 => library.truncate(library.len() - 1),
+        _ => library.clear(),
+    }
 }
 
 /// One line of run-cases: jobs, library and input in hexadecimal and the transcript with `/` for each

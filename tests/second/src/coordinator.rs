@@ -78,7 +78,8 @@ pub fn files_transcript(jobs: Option<&[u8]>, library: Option<&[u8]>, input: &[u8
     }
 }
 
-fn refused_line(refusal: u32) -> String {
+/// "A failed open prints one line, as `refused 1`."
+pub fn refused_line(refusal: u32) -> String {
     format!("refused {refusal}\n")
 }
 

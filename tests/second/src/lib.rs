@@ -12,6 +12,7 @@ pub mod coordinator;
 pub mod list;
 pub mod named;
 pub mod rng;
+pub mod rounds;
 pub mod run;
 
 pub use coordinator::{files_transcript, preview_check, preview_hand_run, transcript};

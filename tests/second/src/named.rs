@@ -8,6 +8,7 @@ use crate::cases::{
 use crate::coordinator::call;
 use crate::list::{decode, encode, task_count, Instruction, Line, TaskList};
 use crate::rng::Rng;
+use crate::rounds::all_rounds;
 use crate::run::{open, TODAY};
 
 /// The stored file of cases is made with these.
@@ -120,6 +121,7 @@ pub fn named_cases() -> Vec<Case> {
     cases.extend(fans());
     cases.extend(sums());
     cases.extend(thousandths());
+    cases.extend(rounds_moves_and_searches());
     cases.extend(refused_lists());
     cases
 }
@@ -1259,6 +1261,164 @@ fn faults_of_rates() -> Vec<Case> {
         ));
     }
     cases
+}
+
+/// #111: job 0 makes so many jobs, up to 32, by fans; each does this many instructions. Then it does as many
+/// as `rest` itself. No job has an entry.
+pub fn jobs_at_once(children: usize, length: usize, rest: usize) -> Vec<u8> {
+    let mut root = vec![fan(1, 0, children.min(16) as u8)];
+    if children > 16 {
+        root.push(fan(1, 0, children as u8 - 16));
+    }
+    root.extend(vec![constant(1, 9); rest]);
+    list(1, &[&[]], &[&root, &vec![constant(2, 7); length]])
+}
+
+/// #111: three jobs without an entry; the last, which is behind the others in the order, is the longest.
+pub fn long_job_last() -> Vec<u8> {
+    list(
+        1,
+        &[&[]],
+        &[
+            &[spawn(1, 0), spawn(1, 0), spawn(2, 0)],
+            &[constant(1, 9)],
+            &[constant(1, 9); 3],
+        ],
+    )
+}
+
+/// #111: jobs of these kinds of lines at entry 0, in this order, each of which uses it once and then does
+/// something else; job 0 waits for all.
+pub fn one_entry_in_turn(kinds: &[u8]) -> Vec<u8> {
+    let lines: Vec<[Line; 1]> = (0..6).map(|kind| [Line { kind, value: 0 }]).collect();
+    let footprints: Vec<&[Line]> = lines.iter().map(|line| &line[..]).collect();
+    let sheet = |kind| match kind {
+        0 => 1,
+        1 => 2,
+        _ => 3,
+    };
+    let mut root: Vec<Instruction> = kinds
+        .iter()
+        .map(|kind| spawn(sheet(*kind), *kind))
+        .collect();
+    root.push(Instruction::Wait { a: 0 });
+    let other = constant(2, 7);
+    list(
+        1,
+        &footprints,
+        &[
+            &root,
+            &[Instruction::Load { a: 1, b: 0 }, other],
+            &[Instruction::Store { a: 0, b: 1 }, other],
+            &[sum(0, 1), other],
+        ],
+    )
+}
+
+/// #111: job 1 makes two jobs of its own while job 2 does other things; job 0 makes job 4 beside them.
+pub fn children_within_rounds() -> Vec<u8> {
+    list(
+        2,
+        &[&[write_line(0)], &[read_line(0)], &[write_line(1)]],
+        &[
+            &[spawn(1, 0), spawn(3, 2), spawn(2, 1), constant(1, 9)],
+            &[
+                constant(1, 5),
+                spawn(2, 1),
+                Instruction::Store { a: 0, b: 1 },
+            ],
+            &[Instruction::Load { a: 2, b: 0 }],
+            &[constant(1, 1), Instruction::Store { a: 1, b: 1 }],
+        ],
+    )
+}
+
+/// The calls of the rounds with so many workers, cut behind so many rounds.
+fn in_rounds(list: &[u8], library: &[u32], workers: u32, rounds: usize) -> Case {
+    let mut case = case(list, library, "");
+    let fresh = open(list, library, &TODAY).expect("an accepted list with its library");
+    let all = all_rounds(&fresh, workers);
+    case.calls = all.into_iter().take(rounds).flatten().collect();
+    case
+}
+
+/// #111, #112 and #103.
+fn rounds_moves_and_searches() -> Vec<Case> {
+    let mut cases = Vec::new();
+    // 15 jobs and job 0, 16 and job 0, and more, which are ready at once; the last have nothing to do.
+    for (children, length) in [(15, 1), (16, 1), (17, 2), (32, 1), (32, 0)] {
+        let bytes = jobs_at_once(children, length, 0);
+        cases.push(in_rounds(&bytes, &[5], 16, 3));
+    }
+    // The bound of the rounds is met by 1, 2, 4, 8 and 16 workers; more workers help up to 6.
+    cases.push(in_rounds(&jobs_at_once(16, 0, 6), &[5], 4, 6));
+    cases.push(in_rounds(&jobs_at_once(5, 4, 0), &[5], 3, 5));
+    cases.push(in_rounds(&long_job_last(), &[5], 2, usize::MAX));
+    // Jobs that are freed, and jobs that are made, within a round.
+    let writers = one_entry_in_turn(&[1, 1, 0, 0, 1]);
+    for rounds in [8, 10, 12] {
+        cases.push(in_rounds(&writers, &[5], 3, rounds));
+        cases.push(in_rounds(
+            &children_within_rounds(),
+            &LIBRARY_P,
+            2,
+            rounds - 3,
+        ));
+    }
+    // Readers beside sums: each group goes at once, one group after the other.
+    let groups = one_entry_in_turn(&[0, 0, 4, 4, 4, 0, 4, 1]);
+    for rounds in [6, 10, 13, usize::MAX] {
+        cases.push(in_rounds(&groups, &[5], 16, rounds));
+    }
+    // A search that stops at a writer in the middle, at the front, at the job itself behind readers and sums.
+    let made = "start 0, step 0, step 0, step 0, step 0, step 0, step 0";
+    for kinds in [
+        [0, 0, 1, 0, 0, 1],
+        [1, 0, 4, 4, 1, 0],
+        [0, 0, 0, 0, 0, 1],
+        [4, 4, 4, 4, 4, 0],
+    ] {
+        cases.push(case(&one_entry_in_turn(&kinds), &[5], made));
+    }
+    cases.push(case(
+        &starts_behind_reader_and_writer(),
+        &[5, 6, 7, 8],
+        made,
+    ));
+    // All of 128 jobs in the order: the last two calls, which end jobs, are left out.
+    let mut all = queue_of_128_by_fans();
+    all.calls.truncate(all.calls.len() - 2);
+    cases.push(all);
+    // The most calls that a list can have, 34 for each of 128 jobs, which are all ready at once.
+    cases.push(case(&most_calls(), &[5], ""));
+    // A writer of the last entry there can be, and one behind 126 jobs without entries: a search stops at place 127.
+    let last: Vec<u32> = (0..64).collect();
+    cases.push(case(&writer_of_entry_63(), &last, "start 0, step 0"));
+    let behind = "start 0, step 0, step 0, step 0, step 0, step 0, step 0, step 0, step 0, step 0";
+    cases.push(case(&writer_behind_126(), &[5], behind));
+    cases
+}
+
+/// #111: 128 jobs of 32 instructions each, and so 4,352 calls; each child is made before the first of them has
+/// ended, and none has an entry.
+pub fn most_calls() -> Vec<u8> {
+    let mut root = vec![fan(1, 0, 16); 7];
+    root.push(fan(1, 0, 15));
+    root.resize(32, constant(1, 9));
+    list(1, &[&[]], &[&root, &[constant(2, 7); 32]])
+}
+
+/// #103: a job that writes entry 63.
+pub fn writer_of_entry_63() -> Vec<u8> {
+    list(64, &[&[write_line(63)]], &[&[spawn(1, 0)], &[]])
+}
+
+/// #103: 126 jobs without an entry, then one that writes entry 0.
+pub fn writer_behind_126() -> Vec<u8> {
+    let mut root = vec![fan(1, 0, 16); 7];
+    root.push(fan(1, 0, 14));
+    root.push(spawn(1, 1));
+    list(1, &[&[], &[write_line(0)]], &[&root, &[]])
 }
 
 fn refused_lists() -> Vec<Case> {

@@ -60,7 +60,7 @@ pub const ZERO_DIVISOR: u8 = 5;
 
 /// "A record has: state (...), sheet, place, four registers, a mode per entry (...), instructions
 /// done, fault, weight."
-#[derive(Clone, Debug, PartialEq, Eq)]
+#[derive(Clone, Debug, PartialEq, Eq, Hash)]
 pub struct Record {
     pub state: u8,
     pub body: usize,
@@ -155,14 +155,16 @@ pub fn queue_of(run: &Run, location: usize) -> Vec<usize> {
     queue
 }
 
-/// The jobs ahead of this one in the queue of an entry.
+/// The jobs in the queue of an entry that are ahead of this one in the order.
 fn ahead_of(run: &Run, task: usize, location: usize) -> Vec<usize> {
     let mut ahead = Vec::new();
-    for other in queue_of(run, location) {
-        if other == task {
+    for other in &run.order {
+        if *other == task {
             break;
         }
-        ahead.push(other);
+        if run.records[*other].modes[location] != NONE {
+            ahead.push(*other);
+        }
     }
     ahead
 }
@@ -204,7 +206,12 @@ fn may_sum(run: &Run, task: usize, location: usize) -> bool {
 /// "What the job's own mode there allows": reading in mode 1, writing in mode 2. #107: "A wait on a sum
 /// entry passes when all ahead have mode 3."
 fn may_use_own_mode(run: &Run, task: usize, location: usize) -> bool {
-    match run.records[task].modes[location] {
+    may_use(run, task, location, run.records[task].modes[location])
+}
+
+/// Whether the job may read, write or sum the entry, by the mode asked for.
+fn may_use(run: &Run, task: usize, location: usize, asked: u8) -> bool {
+    match asked {
         READ => may_read(run, task, location),
         SUM => may_sum_beside(run, task, location),
         _ => may_write(run, task, location),
@@ -346,6 +353,24 @@ pub fn search(run: &Run, task: usize, locations: &[usize]) -> (bool, usize) {
         }
     }
     panic!("job {task} is not in the order")
+}
+
+/// #103, of entries each with the mode asked for: what the search finds, and where it stopped. 0 where nothing
+/// holds the job back, else #102's "19 where a job of mode write is ahead in one of these queues, 20 for any
+/// other hold". First 9 and 10, as each call tests.
+pub fn search_modes(run: &Run, number: u32, asked: &[(usize, u8)]) -> Result<(u32, usize), u32> {
+    let task = test_number(run, number)?;
+    let locations: Vec<usize> = asked.iter().map(|(location, _)| *location).collect();
+    let (writer_ahead, looked) = search(run, task, &locations);
+    let free = |(location, mode): &(usize, u8)| may_use(run, task, *location, *mode);
+    let found = if writer_ahead {
+        BEHIND_A_WRITER
+    } else if asked.iter().all(free) {
+        0
+    } else {
+        OTHER_HOLD
+    };
+    Ok((found, looked))
 }
 
 /// "Start: ...; its state becomes 2."

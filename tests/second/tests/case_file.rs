@@ -34,6 +34,65 @@ fn files_are_read_as_they_were_written() {
     assert_eq!(decode_cases(&[0; 12]).unwrap().len(), 2);
 }
 
+/// The numbers of each line with this word at the front; none of lines that say otherwise.
+fn rows(text: &str, word: &str) -> Vec<Vec<u64>> {
+    text.lines()
+        .filter_map(|line| line.strip_prefix(word))
+        .filter_map(|rest| rest.split(' ').map(|number| number.parse().ok()).collect())
+        .collect()
+}
+
+/// #103, #111 and #112.
+#[test]
+fn the_stored_cases_say_something_of_searches_moves_and_rounds() {
+    let text = cases_output(&named_cases());
+    // A search stops at the front, in the middle, and far behind; at a writer and at the job itself.
+    let searches = rows(&text, "search ");
+    for answer in [0, 19, 20] {
+        let places: Vec<u64> = searches
+            .iter()
+            .flat_map(|row| row[1..].chunks(2))
+            .filter(|found| found[0] == answer)
+            .map(|found| found[1])
+            .collect();
+        assert!(distinct(places).len() > 5, "{answer}");
+    }
+    // All entries together find what no single one finds first.
+    assert!(searches.iter().any(|row| row[1] == 19 && row[3] != 19));
+    assert!(text.contains("\nsearch 0 refused 10\nsearch 128 refused 9\nmove 25 "));
+    // All of 128 jobs are in the order: the searches of job 0, the last of them, are followed by 128's.
+    assert!(text.contains("\nsearch 0 20 128 20 128\nsearch 128 refused 9\n"));
+    // A search stops at a writer behind many jobs, and at one of the last entry there can be.
+    assert!(text.contains("\nsearch 0 19 127 19 127\n"));
+    assert!(searches
+        .iter()
+        .any(|row| row.len() == 131 && row[129..] == [19, 1]));
+    let moves = rows(&text, "move ");
+    assert_eq!(distinct(moves.iter().map(|row| row[0]).collect()), [0, 25]);
+    let counts = distinct(rows(&text, "moves ").iter().map(|row| row[0]).collect());
+    assert!(counts.contains(&0) && counts.len() > 20);
+    // Rounds: more than 3 workers help, 16 are too few, the bound is met above the span.
+    let rounds = rows(&text, "rounds ");
+    let reports: Vec<&[Vec<u64>]> = rounds.chunks(4).collect();
+    let such = |such: fn(&[Vec<u64>]) -> bool| reports.iter().filter(|of| such(of)).count();
+    assert!(reports.iter().all(|of| of[0][0] == 1 && of[3][0] == 16));
+    assert!(such(|of| of[1][1] > of[2][1] && of[2][1] > of[3][1]) >= 10);
+    assert!(such(|of| of[3][1] > of[3][3]) >= 5);
+    assert!(such(|of| of[3][1] == of[3][3] && of[2][1] > of[3][1]) >= 5);
+    let is_bound = |row: &[u64]| row[0] * row[1] == row[2] + (row[0] - 1) * row[3];
+    let above = rounds.iter().filter(|row| row[0] > 1 && row[1] > row[3]);
+    assert!(above.filter(|row| is_bound(row)).count() >= 2);
+    // The most rounds there can be, and a span that needs 128 workers.
+    assert!(rounds.contains(&vec![1, 4352, 4352, 43]));
+    let refusals = text.matches("rounds 0 refused 24\n").count();
+    assert_eq!(refusals, named_cases().len());
+    for refusal in 1..=8 {
+        assert!(text.contains(&format!(
+            "open {refusal}\nrounds 0 refused 24\nrounds 1 refused {refusal}\n"
+        )));
+    }
+}
+
 /// The case's list is accepted and has such an instruction.
 fn has(case: &Case, such: fn(&Instruction) -> bool) -> bool {
     let Ok(list) = decode(&case.list) else {
@@ -66,9 +125,9 @@ fn has_rate(case: &Case) -> bool {
 #[test]
 fn the_stored_cases_reach_every_answer() {
     let cases = stored_cases(STORED_SEED, STORED_COUNT);
-    assert!(encode_cases(&cases).len() <= 50_000);
+    assert!(encode_cases(&cases).len() <= 60_000);
     let text = cases_output(&cases);
-    assert!(text.len() <= 400_000);
+    assert!(text.len() <= 700_000);
     assert!(!text.contains("spoiled"));
     assert_eq!(
         distinct(numbers(&text, "open ")),
@@ -131,15 +190,34 @@ fn what_is_printed_for_p() {
          050001004a4203040100000002010005020100"
             .to_string(),
         "short refused 17".to_string(),
+        "search 1 0 1 0 1".to_string(),
+        "search 2 19 1 19 1 0 2".to_string(),
+        "search 0 19 1 19 1 19 2".to_string(),
+        "search 3 refused 10".to_string(),
+        "search 128 refused 9".to_string(),
+        "move 0 4 26 3".to_string(),
+        "move entries 5 7".to_string(),
+        format!("move record 1 2 1 0 0 0 0 0 0 0 5 {}", modes("2")),
+        "moves 10 13 50 0".to_string(),
+        "moves entries 9 9".to_string(),
         "hand 13 50 0".to_string(),
         "hand entries 9 9".to_string(),
         format!("hand record 0 3 0 2 0 0 0 0 2 0 23 {}", modes("22")),
         format!("hand record 1 3 1 2 0 9 0 0 2 0 12 {}", modes("2")),
         format!("hand record 2 3 2 3 0 9 1 0 3 0 15 {}", modes("12")),
+        "rounds 0 refused 24".to_string(),
+        "rounds 1 13 13 11".to_string(),
+        "rounds 2 11 13 11".to_string(),
+        "rounds 3 11 13 11".to_string(),
+        "rounds 16 11 13 11".to_string(),
+        "rounds 17 refused 24".to_string(),
     ];
     assert_eq!(text.lines().collect::<Vec<&str>>(), expected);
     // A refused open ends the case; no calls are printed as the word alone.
-    assert_eq!(cases_output(&cases[19..20]), "case 0\nopen 8\n");
+    assert_eq!(
+        cases_output(&cases[19..20]),
+        "case 0\nopen 8\nrounds 0 refused 24\nrounds 1 refused 8\nrounds 17 refused 24\n"
+    );
     assert!(cases_output(&cases[..1]).contains("\ncalls\n"));
 }
 
@@ -151,7 +229,8 @@ fn what_is_printed_for_the_empty_file() {
         .filter(|case| case.list.is_empty())
         .collect();
     let text = cases_output(&cases);
-    assert!(text.contains("write 8 4a480100014a4200\nshort refused 17\nhand 2 7 0\n"));
+    assert!(text.contains("write 8 4a480100014a4200\nshort refused 17\nsearch 0 0 1 0 1\n"));
+    assert!(text.contains("moves 2 2 7 0\nmoves entries 5\nhand 2 7 0\n"));
     assert_eq!(distinct(numbers(&text, "open ")), [0, 8]);
     let mut marked = cases;
     for case in &mut marked {

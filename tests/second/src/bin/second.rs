@@ -2,9 +2,12 @@
 //! second check                      a list from standard input: count(0), or `refused K`; 1 too
 //!                                   where it can't be read
 //! second transcript JOBS LIBRARY    what the coordinator prints; calls from standard input
+//! second rounds JOBS LIBRARY        what the program rounds prints
 //! second list-cases SEED N          N lines: list in hexadecimal, `ok COUNT` or `refused K`
 //! second list-files SEED N DIR      N lists as files of DIR, and a line for each, as check prints it
 //! second run-cases SEED N           N lines: jobs, library, input in hexadecimal, transcript
+//! second rounds-files SEED N DIR    N folders of DIR with jobs.bin and library.bin; for each a line
+//!                                   `# ` and its name, and what rounds prints for it
 //! second cases-file SEED N OUT      a file of cases: the named ones, then N random ones
 //! second cases-output FILE          what is to be printed for a file of cases
 
@@ -14,6 +17,7 @@ use second::case_file::{cases_output, decode_cases, encode_cases, MOST_BYTES};
 use second::coordinator::open_files;
 use second::list::NOT_WHOLE;
 use second::rng::Rng;
+use second::rounds::{files_rounds, rounds_text};
 use second::{cases, named};
 
 fn main() {
@@ -34,6 +38,11 @@ fn main() {
                 _ => Vec::new(),
             };
             second::files_transcript(jobs, library, &input)
+        }
+        ["rounds", jobs, library] => {
+            let jobs = std::fs::read(jobs).ok();
+            let library = std::fs::read(library).ok();
+            files_rounds(jobs.as_deref(), library.as_deref())
         }
         ["list-cases", seed, n] => {
             let mut rng = Rng::new(number(seed));
@@ -62,6 +71,19 @@ fn main() {
                 let (jobs, library, input) = cases::run_case(&mut rng);
                 text.push_str(&cases::run_case_line(&jobs, &library, &input));
                 text.push('\n');
+            }
+            text
+        }
+        ["rounds-files", seed, n, folder] => {
+            let mut rng = Rng::new(number(seed));
+            let mut text = String::new();
+            for i in 0..number(n) {
+                let (jobs, library) = cases::rounds_case(&mut rng);
+                let path = format!("{folder}/{i:06}");
+                make_folder(&path);
+                write_file(&format!("{path}/jobs.bin"), &jobs);
+                write_file(&format!("{path}/library.bin"), &library);
+                text.push_str(&format!("# {i:06}\n{}", rounds_text(&jobs, &library)));
             }
             text
         }
@@ -96,6 +118,12 @@ fn answer(list: &[u8]) -> String {
     }
 }
 
+fn make_folder(path: &str) {
+    if let Err(error) = std::fs::create_dir_all(path) {
+        fail(&format!("{path}: {error}"))
+    }
+}
+
 fn write_file(path: &str, bytes: &[u8]) {
     if let Err(error) = std::fs::write(path, bytes) {
         fail(&format!("{path}: {error}"))
@@ -125,8 +153,9 @@ fn number(word: &str) -> u64 {
 
 fn usage() -> ! {
     eprintln!(
-        "second check | transcript JOBS LIBRARY | list-cases SEED N | list-files SEED N DIR \
-         | run-cases SEED N | cases-file SEED N OUT | cases-output FILE"
+        "second check | transcript JOBS LIBRARY | rounds JOBS LIBRARY | list-cases SEED N \
+         | list-files SEED N DIR | run-cases SEED N | rounds-files SEED N DIR \
+         | cases-file SEED N OUT | cases-output FILE"
     );
     std::process::exit(2)
 }

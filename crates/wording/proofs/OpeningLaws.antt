@@ -13,26 +13,33 @@ use Rattle.tasklist.proofs.Guarantees.{accepted-list}
 use Rattle.library.specs.Library.{memory-of, fitting}
 use Rattle.library.proofs.LibraryLaws.{fits-alike}
 use Rattle.semantics.specs.Operations.{denies, with-weights, with-list, open-asked}
-use Rattle.semantics.specs.Run.{context, initial}
+use Rattle.semantics.specs.Run.{Context, context, initial}
 use Rattle.runtime.specs.Asked.{OpenedAs}
 use Rattle.runtime.specs.declared.Opened.{Opened}
 use Rattle.wording.specs.Wording.{line, refused-line}
 use Rattle.wording.specs.Promises.{open-bytes}
 
--- the code reads at most 64 numbers, and no list has more
-open-fitting : (jobs library weights : List ℕ) → open-asked jobs (fitting library) weights ≡ open-asked jobs (memory-of library) weights
-unfolding open-asked with-list
-open-fitting jobs library weights = by-list (decode jobs) refl
+-- The code reads at most 64 numbers, and no list has more: so it is for whatever is asked of a list and its numbers.
+pub asked-fitting :
+    {A : Type 0} (jobs library weights : List ℕ) (f : Context → List ℕ → A)
+    → with-list (decode jobs) (fitting library) weights (λ c. f c (fitting library))
+    ≡ with-list (decode jobs) (memory-of library) weights (λ c. f c (memory-of library))
+unfolding with-list
+asked-fitting {A} jobs library weights f = by-list (decode jobs) refl
   where
     by-list :
         (d : Decoded) → decode jobs ≡ d
-        → with-list d (fitting library) weights (λ c. initial c (fitting library))
-        ≡ with-list d (memory-of library) weights (λ c. initial c (memory-of library))
+        → with-list d (fitting library) weights (λ c. f c (fitting library))
+        ≡ with-list d (memory-of library) weights (λ c. f c (memory-of library))
     by-list (refused k) e = refl
     by-list (accepted l) e =
         let ok = accepted-list jobs l e in
-        fits-alike library (l .locations) (λ m. with-weights weights (initial (context l weights) m)) (denies 8) (ok .some-location)
+        fits-alike library (l .locations) (λ m. with-weights weights (f (context l weights) m)) (denies 8) (ok .some-location)
         (ok .most-locations)
+
+open-fitting : (jobs library weights : List ℕ) → open-asked jobs (fitting library) weights ≡ open-asked jobs (memory-of library) weights
+unfolding open-asked
+open-fitting jobs library weights = asked-fitting jobs library weights (λ c m. initial c m)
 
 pub opened-by :
     (jobs library memory weights today : List ℕ) (o : Opened) → memory ≡ fitting library → weights ≡ today

@@ -1,11 +1,9 @@
 //! draw LIST LIBRARY CALLS: a picture of a publication on standard output, as SVG. The files are the coordinator's:
 //! jobs.bin, library.bin and the calls of its standard input. What each call does is the second implementation's word.
 
-mod history;
-mod picture;
-mod svg;
-
 use std::process::exit;
+
+use drawing::{history, picture};
 
 fn main() {
     let arguments: Vec<String> = std::env::args().skip(1).collect();

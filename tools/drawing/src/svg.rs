@@ -1,5 +1,6 @@
 //! The few elements that a picture is made of.
 
+#[derive(Default)]
 pub struct Svg {
     body: String,
 }
@@ -8,13 +9,12 @@ pub struct Svg {
 pub enum Anchor {
     Start,
     Middle,
+    End,
 }
 
 impl Svg {
     pub fn new() -> Self {
-        Svg {
-            body: String::new(),
-        }
+        Svg::default()
     }
 
     pub fn rect(&mut self, x: i64, y: i64, width: i64, height: i64, style: &str) {
@@ -29,6 +29,18 @@ impl Svg {
         ));
     }
 
+    /// A line through points that are named in tenths, for curves.
+    pub fn curve(&mut self, tenths: &[(i64, i64)], style: &str) {
+        let points: Vec<String> = tenths
+            .iter()
+            .map(|(x, y)| format!("{}.{},{}.{}", x / 10, x % 10, y / 10, y % 10))
+            .collect();
+        self.body.push_str(&format!(
+            "<polyline points=\"{}\" fill=\"none\" {style}/>\n",
+            points.join(" ")
+        ));
+    }
+
     pub fn dot(&mut self, x: i64, y: i64, radius: i64, style: &str) {
         self.body.push_str(&format!(
             "<circle cx=\"{x}\" cy=\"{y}\" r=\"{radius}\" {style}/>\n"
@@ -39,6 +51,7 @@ impl Svg {
         let anchor = match anchor {
             Anchor::Start => "start",
             Anchor::Middle => "middle",
+            Anchor::End => "end",
         };
         let text = escaped(text);
         self.body.push_str(&format!("<text x=\"{x}\" y=\"{y}\" font-size=\"{size}\" text-anchor=\"{anchor}\" {style}>{text}</text>\n"));

@@ -2,11 +2,16 @@
 //   run compare FILE..     the fast functions give what the proved ones give, on these lists
 //   run table ROUNDS       times, as a table
 //   run count WHAT N       N times one of the inputs and nothing else, to count instructions
+//   run lists FOLDER       the files of the program rounds for the tree and the dearest list, in FOLDER/tree and FOLDER/dearest
+//   run rounds PROGRAM FOLDER N M    times of that program, N runs in FOLDER/tree, M in FOLDER/dearest; absolute paths
 #include <stdint.h>
 #include <stdio.h>
 #include <stdlib.h>
 #include <string.h>
+#include <sys/resource.h>
+#include <sys/wait.h>
 #include <time.h>
+#include <unistd.h>
 
 #include "../include/preview.h"
 #include "openmp.h"
@@ -87,6 +92,35 @@ static struct list tree(void) {
     return list;
 }
 
+// The dearest list found for the rounds of request 111: 128 tasks and 4,352 calls, the most that a list can make.
+// A round with two or more workers looks at every task that is held back, and each such look goes through all tasks ahead. So
+// the list keeps as many as it can held back for as long as it can: 124 tasks that go one after the other, each 34 calls long.
+// - Each reads or sums the same 8 entries, no two neighbours alike: a task is held back by the one ahead of it, and no look
+//   ends early, as it would at a task of mode write. Which entries are summed is scattered, so that the branches of a look
+//   are hard to foresee.
+// - A sheet has room for 32 spawns. So sheets 0 to 3 spawn them, each the next of these sheets first: that task writes the
+//   8 entries, stands at the front and so starts at once.
+// - Sheet 0 ends with a wait, so that task 0 stays to the end and is looked at too.
+static struct list dearest(void) {
+    struct list list = {.length = 0};
+    put(&list, 5, (uint8_t[]){0x4A, 0x48, 8, 32, 5});
+    for (uint32_t f = 0; f < 32; f++) {
+        uint8_t sums = f * 2654435761u >> 24; // another number for each f
+        put(&list, 3, (uint8_t[]){0x4A, 0x46, 8});
+        for (uint8_t e = 0; e < 8; e++) put(&list, 2, (uint8_t[]){f == 0 ? 1 : sums >> e & 1 ? 4 : 0, e});
+    }
+    static const uint8_t before[4] = {94, 63, 32, 0}; // tasks of the row that stand ahead of this sheet's
+    for (uint8_t s = 0; s < 4; s++) {
+        put(&list, 3, (uint8_t[]){0x4A, 0x42, 32});
+        if (s < 3) put(&list, 4, (uint8_t[]){7, s + 1, 0, 0});
+        for (uint8_t k = before[s]; k < (s ? before[s - 1] : 124); k++) put(&list, 4, (uint8_t[]){7, 4, 1 + k % 31, 0});
+        if (s == 0) put(&list, 4, (uint8_t[]){8, 0, 0, 0});
+    }
+    put(&list, 3, (uint8_t[]){0x4A, 0x42, 32});
+    for (int i = 0; i < 32; i++) put(&list, 4, (uint8_t[]){0, 0, 0, 0});
+    return list;
+}
+
 // The calls of the tree's hand run, in order.
 static uint8_t kinds[380], input[760];
 static uint32_t tasks[380];
@@ -110,8 +144,8 @@ static uint32_t whole(uint32_t task, int depth) {
 }
 
 // ---- what is measured; a piece that is lent holds 256 calls
-enum { TASKS = 127, CALLS = 380, PIECE = 256 };
-static struct list big, small;
+enum { TASKS = 127, CALLS = 380, PIECE = 256, MOST_TASKS = 128, MOST_CALLS = 4352 };
+static struct list big, small, dear;
 static const uint32_t memory[64] = {5, 7};
 // Today's weights: start, end, codes 0 to 12; over the C boundary as bytes.
 enum { WEIGHTS = 15 };
@@ -130,6 +164,7 @@ static void lent(void) { sink = bench_lent(small.bytes, small.length, memory, 2,
 static void inputs(void) {
     big = longest();
     small = tree();
+    dear = dearest();
     whole(0, 0);
     if (big.length != 4805 || made != CALLS) fail("an input is not what it should be");
     check_proved();
@@ -145,6 +180,8 @@ static void inputs(void) {
     if (sink != PIECE) fail("the lent calls of the tree");
     opened();
     if (sink != 1) fail("the opened tree");
+    if (preview_check(dear.bytes, dear.length) != MOST_TASKS) fail("the dearest list");
+    if (bench_sequential(dear.bytes, dear.length, memory, 8) != MOST_CALLS) fail("the hand run of the dearest list");
 }
 
 // ---- comparison
@@ -180,6 +217,25 @@ static void compare(int n, char **names) {
         if (length == 0) empty++;
     }
     printf("%d lists, %d of them accepted, %d empty: the fast check and hand run give what the proved ones give\n", n, accepted, empty);
+}
+
+// ---- the files of the program rounds
+static const char *inside(const char *folder, const char *name) {
+    static char path[4096];
+    if (snprintf(path, sizeof path, "%s/%s", folder, name) >= (int)sizeof path) fail("a path is too long");
+    return path;
+}
+
+static void written(const char *path, const void *bytes, size_t length) {
+    FILE *file = fopen(path, "wb");
+    if (!file || fwrite(bytes, 1, length, file) != length || fclose(file)) fail(path);
+}
+
+static void lists(const char *folder) {
+    written(inside(folder, "tree/jobs.bin"), small.bytes, small.length);
+    written(inside(folder, "tree/library.bin"), memory, 4 * 2);
+    written(inside(folder, "dearest/jobs.bin"), dear.bytes, dear.length);
+    written(inside(folder, "dearest/library.bin"), memory, 4 * 8);
 }
 
 // ---- times
@@ -277,6 +333,41 @@ static void table(void) {
     calls("  lent: start_in, step_in, end_in", LENT, PIECE);
 }
 
+// The user time of a program that is run here and prints into the file `table`, in seconds.
+static double user_time(const char *program) {
+    fflush(stdout);
+    pid_t child = fork();
+    if (child < 0) fail("no process");
+    if (child == 0) {
+        if (!freopen("table", "w", stdout)) _exit(127);
+        execl(program, program, (char *)0);
+        _exit(127);
+    }
+    int status;
+    struct rusage used;
+    if (wait4(child, &status, 0, &used) != child || status != 0) fail(program);
+    return used.ru_utime.tv_sec + used.ru_utime.tv_usec / 1e6;
+}
+
+static void seconds(const char *name, const char *program, const char *folder, int times, unsigned calls, const char *goal) {
+    double a[MOST];
+    unsigned found;
+    if (chdir(folder)) fail(folder);
+    rounds = times;
+    for (int i = 0; i < rounds; i++) a[i] = user_time(program);
+    FILE *file = fopen("table", "r");
+    if (!file || fscanf(file, "calls %u", &found) != 1 || found != calls) fail("the table of rounds has other calls");
+    fclose(file);
+    struct spread s = spread_of(a);
+    printf("%-52s %9.3f %9s %8s  %7.3f to %-7.3f %s\n", name, s.middle, "", "", s.low, s.high, goal);
+}
+
+static void programs(const char *program, const char *folder, int trees, int dearests) {
+    printf("%-52s %9s %9s %8s  %-18s %s\n", "the program rounds: all of its table, user time", "s", "", "", "middle half", "goal");
+    seconds("  the tree of 127 tasks", program, inside(folder, "tree"), trees, CALLS, "0.1");
+    seconds("  the dearest list found, 128 tasks", program, inside(folder, "dearest"), dearests, MOST_CALLS, "5");
+}
+
 static void count(const char *what, int times) {
     static const struct {
         const char *name;
@@ -298,5 +389,11 @@ int main(int n, char **words) {
         table();
     }
     if (!strcmp(words[1], "count") && n > 3) count(words[2], atoi(words[3]));
+    if (!strcmp(words[1], "lists")) lists(words[2]);
+    if (!strcmp(words[1], "rounds") && n > 5) {
+        int trees = atoi(words[4]), dearests = atoi(words[5]);
+        if (trees < 4 || trees > MOST || dearests < 4 || dearests > MOST) return 2;
+        programs(words[2], words[3], trees, dearests);
+    }
     return 0;
 }

@@ -11,6 +11,7 @@ use Rattle.tasklist.specs.Accepted.{Accepted}
 use Rattle.semantics.specs.Run.{Run, Context, weight-of, initial}
 use Rattle.semantics.specs.Call.{Call, call, after, after-all, accepted-count}
 use Rattle.semantics.specs.Sequential.{sequential, trace}
+use Rattle.semantics.specs.Operations.{Library}
 use Rattle.semantics.specs.Sound.{Valid}
 use Rattle.semantics.proofs.Confluence.{Reach}
 use Rattle.semantics.proofs.Kept.{initial-valid}
@@ -20,7 +21,7 @@ use Rattle.semantics.proofs.Guarantee.{guarantee}
 use Rattle.semantics.proofs.Sound.{sequential-sound}
 use Rattle.semantics.proofs.Bounds.{calls-most}
 use Rattle.model_rounds.specs.Rounds.{round-calls, rounds-from, all-calls, most-rounds, publication, all-workers, report}
-use Rattle.model_rounds.specs.Statement.{Choice, Finishes, Library, RoundsTheorem}
+use Rattle.model_rounds.specs.Statement.{Choice, Finishes, RoundsTheorem}
 use Rattle.model_rounds.proofs.Together.{after-valid, together-accepted}
 use Rattle.model_rounds.proofs.Round.{round-chosen, chosen-together, round-some, no-rounds, rounds-by}
 use Rattle.model_rounds.proofs.Rounds.{after-round, upper-bound, lower-bound}

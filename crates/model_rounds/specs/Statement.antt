@@ -1,13 +1,14 @@
 -- What holds of the rounds: document 02, request 111. The theorem is `RoundsTheorem`, proved in proofs/Theorem.antt.
-use Prim.Native.Nat.{ℕ, _+_, _-_, _*_, _^_, _≤_, _<_}
+use Prim.Native.Nat.{ℕ, _+_, _-_, _*_, _≤_}
 use mathlib.Core.Path.{_≡_}
 use mathlib.Core.List.{List, [], _∷_, map}
 use mathlib.Core.Bool.{true}
-use lib.ListN.{length, getD}
+use lib.ListN.{length}
 use Rattle.tasklist.specs.Accepted.{Accepted}
 use Rattle.semantics.specs.Run.{Run, Context, initial}
 use Rattle.semantics.specs.Call.{Call, after-all, accepted-count}
 use Rattle.semantics.specs.Turns.{next-call}
+use Rattle.semantics.specs.Operations.{Library}
 use Rattle.semantics.specs.Sound.{In, Distinct}
 use Rattle.model_rounds.specs.Rounds.{ready, all-calls, publication, report}
 
@@ -27,11 +28,6 @@ Choice c workers r (calls ∷ rounds) = Chosen c workers r calls × Choice c wor
 -- "that finishes the list": no task is left after its calls
 abbrev pub Finishes : Context → Run → List (List Call) → Type 0
 Finishes c r rounds = after-all c r (all-calls rounds) .order ≡ []
-
--- "what open takes", of the library: it fits the list, and its numbers have 32 bits
-pub record Library (c : Context) (memory : List ℕ) : Type 0 where
-  pub fits : length memory ≡ c .list .locations
-  pub small : (a : ℕ) → getD memory a 0 < 2 ^ 32
 
 -- Request 111, a field for each clause.
 pub record RoundsLaw (c : Context) (memory : List ℕ) (workers : ℕ) : Type 0 where

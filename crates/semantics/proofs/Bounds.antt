@@ -16,7 +16,7 @@ use Rattle.semantics.specs.Access.{every}
 use Rattle.semantics.specs.Effect.{Effect}
 use Rattle.semantics.specs.Call.{Call, splice, stays, places, apply}
 use Rattle.semantics.specs.Operations.{WeightsAccepted}
-use Rattle.semantics.specs.Sound.{In, Distinct, Valid, TaskSound, rank, Sound}
+use Rattle.semantics.specs.Sound.{In, Distinct, Valid, TaskSound, rank, Weighty, Sound}
 use Rattle.semantics.proofs.Order.{and-left, and-right, splice-same, splice-other, splice-absent, in-splice, distinct-splice}
 use Rattle.semantics.proofs.Apply.{numbers}
 use Rattle.semantics.proofs.Decide.{Accepts}
@@ -126,6 +126,19 @@ weight-at (w ∷ ws) h (suc place) = weight-at ws (and-right (leb 1 w && leb w 1
 pub weights-light : (c : Context) → WeightsAccepted (c .weights) → (place : ℕ) → 16 * weight-of c place ≤ 16000
 unfolding weight-of
 weights-light c ok place = let h = weight-at (c .weights) (ok .each) place in omega arith
+
+-- "a number not in 1 to 1000"
+weight-least : (ws : List ℕ) → every is-weight ws ≡ true → (place : ℕ) → place < length ws → 1 ≤ getD ws place 0
+unfolding every is-weight
+weight-least [] h place l = let z : ⊥ = omega arith in absurd z
+weight-least (w ∷ ws) h zero l =
+    leb-true 1 w (and-left (leb 1 w) (leb w 1000) (and-left (leb 1 w && leb w 1000) (every is-weight ws) h))
+weight-least (w ∷ ws) h (suc place) l =
+    weight-least ws (and-right (leb 1 w && leb w 1000) (every is-weight ws) h) place (omega arith)
+
+pub weights-heavy : (c : Context) → WeightsAccepted (c .weights) → Weighty c
+unfolding weight-of
+weights-heavy c ok place l = weight-least (c .weights) (ok .each) place (omega (arith, ok .size))
 
 pub fixed-accepted : WeightsAccepted fixed-weights
 fixed-accepted = record { size = unfold fixed-weights weight-places in refl; each = unfold fixed-weights every is-weight in refl }

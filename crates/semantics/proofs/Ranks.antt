@@ -1,4 +1,4 @@
--- Sums of ranks over the table of tasks. Assumes nothing.
+-- Sums over the table of tasks, of ranks and of weights. Assumes nothing.
 use Prim.Native.Nat.{ℕ, zero, suc, _+_, _*_, _<_, _≤_}
 use mathlib.Core.Path.{_≡_, refl, sym, ap, subst, _∙_}
 use mathlib.Core.List.{List, [], _∷_}
@@ -9,7 +9,7 @@ use Rattle.tasklist.specs.TaskList.{total}
 use Rattle.semantics.specs.Run.{Task, never}
 use Rattle.semantics.specs.Effect.{Numbered}
 use Rattle.semantics.specs.Call.{written}
-use Rattle.semantics.specs.Sound.{In, Distinct, rank}
+use Rattle.semantics.specs.Sound.{In, Distinct, rank, weighs}
 use Rattle.semantics.proofs.Apply.{numbers, length-written, written-other}
 
 -- sums of ranks
@@ -35,21 +35,26 @@ pub never-rank : rank never ≡ 0
 unfolding rank never
 never-rank = refl
 
+pub never-weighs : weighs never ≡ 0
+unfolding never
+never-weighs = refl
+
+-- new tasks that count for nothing in the place of blank records
 pub total-made :
-    (xs : List Numbered) (ts : List Task) → Distinct (numbers xs)
-    → ((x : Numbered) → In x xs → (x .number < length ts) × (getD ts (x .number) never ≡ never) × (rank (x .task) ≡ 0))
-    → total rank (written xs ts) ≡ total rank ts
-total-made [] ts d h = unfold written in refl
-total-made (x ∷ xs) ts d h =
-    unchanged (total-made xs ts (d .1) (λ y i. h y (inr i)))
+    (f : Task → ℕ) → f never ≡ 0 → (xs : List Numbered) (ts : List Task) → Distinct (numbers xs)
+    → ((x : Numbered) → In x xs → (x .number < length ts) × (getD ts (x .number) never ≡ never) × (f (x .task) ≡ 0))
+    → total f (written xs ts) ≡ total f ts
+total-made f none [] ts d h = unfold written in refl
+total-made f none (x ∷ xs) ts d h =
+    unchanged (total-made f none xs ts (d .1) (λ y i. h y (inr i)))
   where
-    was : rank (getD (written xs ts) (x .number) never) ≡ 0
-    was = ap rank (written-other xs ts (x .number) (d .0) ∙ h x (inl refl) .1) ∙ never-rank
+    was : f (getD (written xs ts) (x .number) never) ≡ 0
+    was = ap f (written-other xs ts (x .number) (d .0) ∙ h x (inl refl) .1) ∙ none
 
     sum :
-        total rank (set (written xs ts) (x .number) (x .task)) + rank (getD (written xs ts) (x .number) never)
-        ≡ total rank (written xs ts) + rank (x .task)
-    sum = total-set rank (written xs ts) (x .number) (x .task) never (subst (λ k. x .number < k) (sym (length-written xs ts)) (h x (inl refl) .0))
+        total f (set (written xs ts) (x .number) (x .task)) + f (getD (written xs ts) (x .number) never)
+        ≡ total f (written xs ts) + f (x .task)
+    sum = total-set f (written xs ts) (x .number) (x .task) never (subst (λ k. x .number < k) (sym (length-written xs ts)) (h x (inl refl) .0))
 
-    unchanged : total rank (written xs ts) ≡ total rank ts → total rank (written (x ∷ xs) ts) ≡ total rank ts
+    unchanged : total f (written xs ts) ≡ total f ts → total f (written (x ∷ xs) ts) ≡ total f ts
     unchanged ih = unfold written in omega (arith, ih, was, sum, h x (inl refl) .2)

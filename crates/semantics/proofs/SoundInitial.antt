@@ -7,12 +7,12 @@ use native.Mathlib.Omega.{arith}
 use lib.ListN.{length, getD, replicate, length-append, length-replicate}
 use Rattle.tasklist.specs.TaskList.{total}
 use Rattle.tasklist.specs.Accepted.{Accepted}
-use Rattle.semantics.specs.Run.{Context, never, task-of, root-modes, root, initial}
-use Rattle.semantics.specs.Sound.{In, ModesSound, RegistersSound, TaskSound, rank, Sound}
+use Rattle.semantics.specs.Run.{Task, Context, never, task-of, root-modes, root, initial}
+use Rattle.semantics.specs.Sound.{In, ModesSound, RegistersSound, TaskSound, rank, weighs, Sound}
 use Rattle.semantics.proofs.SoundModes.{none-sound}
 use Rattle.semantics.proofs.Valid.{never-state}
 use Rattle.semantics.proofs.Kept.{blanks, initial-valid}
-use Rattle.semantics.proofs.Ranks.{total-cons, never-rank}
+use Rattle.semantics.proofs.Ranks.{total-cons, never-rank, never-weighs}
 
 -- the initial run
 zeros-small : RegistersSound (0 ∷ 0 ∷ 0 ∷ 0 ∷ [])
@@ -105,15 +105,24 @@ module _ (c : Context) (ok : Accepted (c .list)) where
         no-state (inl p) z = omega arith
         no-state (inr p) z = omega arith
 
-    blank-ranks : (m : ℕ) → total rank (replicate m never) ≡ 0
+    -- a sum over the table of what is 0 for job 0 and for a blank record
+    blank-total : (f : Task → ℕ) → f never ≡ 0 → (m : ℕ) → total f (replicate m never) ≡ 0
     unfolding total
-    blank-ranks zero = refl
-    blank-ranks (suc m) = let h = blank-ranks m in omega (arith, never-rank)
+    blank-total f none zero = refl
+    blank-total f none (suc m) = let h = blank-total f none m in omega (arith, none)
 
-    initial-ranks : total rank (root c ∷ replicate 127 never) ≡ 0
-    initial-ranks =
-        let none-yet : rank (root c) ≡ 0 = unfold rank root in refl in
-        total-cons rank (root c) (replicate 127 never) ∙ omega (arith, none-yet, blank-ranks 127)
+    initial-total : (f : Task → ℕ) → f never ≡ 0 → f (root c) ≡ 0 → total f (root c ∷ replicate 127 never) ≡ 0
+    initial-total f none first =
+        total-cons f (root c) (replicate 127 never) ∙ omega (arith, first, blank-total f none 127)
+
+    root-rank : rank (root c) ≡ 0
+    unfolding rank root
+    root-rank = refl
+
+    initial-rank : (k : ℕ) → rank (task-of (initial c memory) k) ≡ 0
+    unfolding initial
+    initial-rank zero = root-rank
+    initial-rank (suc k) = ap rank (blanks k 127) ∙ never-rank
 
     pub initial-sound :
         (most : ℕ) → length memory ≡ c .list .locations → ((a : ℕ) → getD memory a 0 < 2 ^ 32)
@@ -125,7 +134,9 @@ module _ (c : Context) (ok : Accepted (c .list)) where
           unended = initial-unended;
           locations = unfold initial in q;
           small = unfold initial in h;
-          ranks = unfold initial in initial-ranks;
+          ranks = unfold initial in initial-total rank never-rank root-rank;
           weight = unfold initial in omega arith;
           weights = λ k. let z = initial-light k in omega arith;
+          weighed = unfold initial in initial-total weighs never-weighs (unfold root in refl);
+          earned = λ _ k. omega (arith, initial-rank k);
         }

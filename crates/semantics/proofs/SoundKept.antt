@@ -14,7 +14,7 @@ use Rattle.semantics.specs.Run.{Task, Run, Context, never, task-of, weig
 use Rattle.semantics.specs.Effect.{Edit, keep, put, add, Numbered, Effect, Plan, stop, go, fetch}
 use Rattle.semantics.specs.Plan.{plan}
 use Rattle.semantics.specs.Call.{Call, among, sum-of, edited, written, stays, places, charged, changes, apply, call, or-same, after, after-all}
-use Rattle.semantics.specs.Sound.{In, TaskSound, rank, Sound}
+use Rattle.semantics.specs.Sound.{In, TaskSound, rank, weighs, Weighty, Sound}
 use Rattle.semantics.proofs.Order.{in-left, in-right, among-in, in-among, splice-keep, splice-new}
 use Rattle.semantics.proofs.Modes.{getD-set-cases}
 use Rattle.semantics.proofs.Apply.{numbers, touched, in-numbers, numbers-in, length-written, written-other, task-other}
@@ -22,15 +22,15 @@ use Rattle.semantics.proofs.Decide.{Settled, Accepts, call-accept}
 use Rattle.semantics.proofs.Valid.{made-absent, made-is-future, made-below, made-record, touched-distinct}
 use Rattle.semantics.proofs.Kept.{self-record, valid-kept}
 use Rattle.semantics.proofs.SoundPlan.{SmallEdit, EffectSound, PlanSound, plan-sound}
-use Rattle.semantics.proofs.Ranks.{total-set, total-made}
+use Rattle.semantics.proofs.Ranks.{total-set, never-rank, never-weighs, total-made}
 
 -- Whose record a number names after a call of n.
-data Whose (n : ℕ) (e : Effect) (k : ℕ) : Type 0 where
+pub data Whose (n : ℕ) (e : Effect) (k : ℕ) : Type 0 where
   self : k ≡ n → Whose n e k
   new : (x : Numbered) → In x (e .made) → k ≡ x .number → Whose n e k
   same : (In k (touched n e) → ⊥) → Whose n e k
 
-whose : (n : ℕ) (e : Effect) (k : ℕ) → Whose n e k
+pub whose : (n : ℕ) (e : Effect) (k : ℕ) → Whose n e k
 whose n e k = sort (ℕ-discrete k n) (among k (numbers (e .made))) refl
   where
     neither : k ≢ n → among k (numbers (e .made)) ≡ false → In k (touched n e) → ⊥
@@ -97,13 +97,13 @@ module _ (c : Context) (ok : Accepted (c .list)) (most : ℕ) (light : (place : 
         sort (go gs d) q a = subst (EffectSound c most (task-of r (b .task))) (a .1) q
         sort (fetch l f) q a = subst (EffectSound c most (task-of r (b .task))) (a .1) (q (getD (r .memory) l 0) (s .small l))
 
-    self-is : (k : ℕ) → k ≡ b .task → task-of (apply (b .task) e r) k ≡ charged (e .weight) (e .task)
+    pub self-is : (k : ℕ) → k ≡ b .task → task-of (apply (b .task) e r) k ≡ charged (e .weight) (e .task)
     self-is = self-record c ok r (s .valid) b e h
 
-    new-is : (k : ℕ) (x : Numbered) → In x (e .made) → k ≡ x .number → task-of (apply (b .task) e r) k ≡ x .task
+    pub new-is : (k : ℕ) (x : Numbered) → In x (e .made) → k ≡ x .number → task-of (apply (b .task) e r) k ≡ x .task
     new-is k x i q = ap (task-of (apply (b .task) e r)) q ∙ made-record c ok r (s .valid) b e h x i
 
-    same-is : (k : ℕ) → (In k (touched (b .task) e) → ⊥) → task-of (apply (b .task) e r) k ≡ task-of r k
+    pub same-is : (k : ℕ) → (In k (touched (b .task) e) → ⊥) → task-of (apply (b .task) e r) k ≡ task-of r k
     same-is k q = task-other (b .task) e r k q
 
     keeps-tasks : (k : ℕ) → Whose (b .task) e k → TaskSound c (task-of (apply (b .task) e r) k)
@@ -116,7 +116,7 @@ module _ (c : Context) (ok : Accepted (c .list)) (most : ℕ) (light : (place : 
     keeps-weights k (self q) =
         let a = ap (λ t. t .weight) (self-is k q) in
         let p = effect-sound .paid in
-        let w = effect-sound .weight in
+        let w = effect-sound .weight .0 in
         let o = s .weights (b .task) in
         omega arith
     keeps-weights k (new x i q) =
@@ -160,37 +160,62 @@ module _ (c : Context) (ok : Accepted (c .list)) (most : ℕ) (light : (place : 
         (s .unended k (subst (λ t. (t .state ≡ 1) ⊎ (t .state ≡ 2)) (same-is k q) a))
         (λ p. q (inl p))
 
-    keeps-ranks : total rank (apply (b .task) e r .tasks) ≡ suc (r .calls)
-    keeps-ranks = sum-up
+    -- the sum of a number of each task: the task's own rises by d, a new task has 0
+    total-kept :
+        (f : Task → ℕ) (d : ℕ) → f never ≡ 0 → ((x : Numbered) → In x (e .made) → f (x .task) ≡ 0)
+        → f (charged (e .weight) (e .task)) ≡ f (task-of r (b .task)) + d
+        → total f (apply (b .task) e r .tasks) ≡ total f (r .tasks) + d
+    total-kept f d blank unborn rise = sum-up
       where
         size : b .task < length (written (e .made) (r .tasks))
         size = subst (λ k. b .task < k) (sym (length-written (e .made) (r .tasks) ∙ s .valid .size)) (h .below)
 
-        was : rank (getD (written (e .made) (r .tasks)) (b .task) never) ≡ rank (task-of r (b .task))
-        was = ap rank (written-other (e .made) (r .tasks) (b .task) (made-absent c ok r (s .valid) b e h (b .task) (h .present)))
+        was : f (getD (written (e .made) (r .tasks)) (b .task) never) ≡ f (task-of r (b .task))
+        was = ap f (written-other (e .made) (r .tasks) (b .task) (made-absent c ok r (s .valid) b e h (b .task) (h .present)))
 
-        made : total rank (written (e .made) (r .tasks)) ≡ total rank (r .tasks)
+        made : total f (written (e .made) (r .tasks)) ≡ total f (r .tasks)
         made =
-            total-made (e .made) (r .tasks) (touched-distinct c ok r (s .valid) b e h .1)
+            total-made f blank (e .made) (r .tasks) (touched-distinct c ok r (s .valid) b e h .1)
             (λ x i. (
               subst (λ k. x .number < k) (sym (s .valid .size)) (made-below c ok r (s .valid) b e h x i),
               s .valid .blank (b .task) (x .number) (h .present) (made-is-future c ok r (s .valid) b e h x i),
-              effect-sound .made x i .unranked,
+              unborn x i,
             ))
 
         own : Task
         own = charged (e .weight) (e .task)
 
         sum :
-            total rank (set (written (e .made) (r .tasks)) (b .task) own) + rank (getD (written (e .made) (r .tasks)) (b .task) never)
-            ≡ total rank (written (e .made) (r .tasks)) + rank own
-        sum = total-set rank (written (e .made) (r .tasks)) (b .task) own never size
+            total f (set (written (e .made) (r .tasks)) (b .task) own) + f (getD (written (e .made) (r .tasks)) (b .task) never)
+            ≡ total f (written (e .made) (r .tasks)) + f own
+        sum = total-set f (written (e .made) (r .tasks)) (b .task) own never size
 
-        higher : rank own ≡ suc (rank (task-of r (b .task)))
-        higher = unfold rank in effect-sound .ranked
+        sum-up : total f (apply (b .task) e r .tasks) ≡ total f (r .tasks) + d
+        sum-up = unfold apply changes written in omega (arith, sum, made, was, rise)
 
-        sum-up : total rank (apply (b .task) e r .tasks) ≡ suc (r .calls)
-        sum-up = unfold apply changes written in omega (arith, sum, made, was, higher, s .ranks)
+    higher : rank (charged (e .weight) (e .task)) ≡ suc (rank (task-of r (b .task)))
+    higher = unfold rank in effect-sound .ranked
+
+    keeps-ranks : total rank (apply (b .task) e r .tasks) ≡ suc (r .calls)
+    keeps-ranks =
+        let sum = total-kept rank 1 never-rank (λ x i. effect-sound .made x i .unranked) (omega (arith, higher)) in
+        omega (arith, sum, s .ranks)
+
+    keeps-weighed : total weighs (apply (b .task) e r .tasks) ≡ r .weight + e .weight
+    keeps-weighed =
+        let sum =
+        total-kept weighs (e .weight) never-weighs (λ x i. effect-sound .made x i .unpaid) (omega (arith, effect-sound .paid)) in
+        omega (arith, sum, s .weighed)
+
+    keeps-earned :
+        Weighty c → (k : ℕ) → Whose (b .task) e k
+        → rank (task-of (apply (b .task) e r) k) ≤ task-of (apply (b .task) e r) k .weight
+    keeps-earned heavy k (self q) =
+        subst (λ t. rank t ≤ t .weight) (sym (self-is k q))
+        (omega (arith, higher, effect-sound .paid, effect-sound .weight .1 heavy, s .earned heavy (b .task)))
+    keeps-earned heavy k (new x i q) =
+        subst (λ t. rank t ≤ t .weight) (sym (new-is k x i q)) (omega (arith, effect-sound .made x i .unranked))
+    keeps-earned heavy k (same q) = subst (λ t. rank t ≤ t .weight) (sym (same-is k q)) (s .earned heavy k)
 
     pub sound-kept : Sound c most (apply (b .task) e r)
     unfolding apply
@@ -202,8 +227,10 @@ module _ (c : Context) (ok : Accepted (c .list)) (most : ℕ) (light : (place : 
           locations = edited-length (e .edit) (r .memory) ∙ s .locations;
           small = edited-small (e .edit) (r .memory) (effect-sound .edit) (s .small);
           ranks = keeps-ranks;
-          weight = let w = effect-sound .weight in let o = s .weight in omega arith;
+          weight = let w = effect-sound .weight .0 in let o = s .weight in omega arith;
           weights = λ k. keeps-weights k (whose (b .task) e k);
+          weighed = keeps-weighed;
+          earned = λ heavy k. keeps-earned heavy k (whose (b .task) e k);
         }
 
   pub sound-call : (r r′ : Run) (b : Call) → Sound c most r → call c r b ≡ some r′ → Sound c most r′

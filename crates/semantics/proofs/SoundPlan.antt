@@ -19,12 +19,12 @@ use Rattle.tasklist.specs.Decode.{spawn-ok, instruction-ok}
 use Rattle.tasklist.specs.Encode.{instruction-fields}
 use Rattle.tasklist.specs.Accepted.{Accepted, scope-of}
 use Rattle.tasklist.specs.Decode
-use Rattle.semantics.specs.Run.{Task, Context, mode-of, register, weight-of}
+use Rattle.semantics.specs.Run.{Task, Context, mode-of, register, weight-places, weight-of}
 use Rattle.semantics.specs.Access.{access-fault}
 use Rattle.semantics.specs.Effect.{Edit, keep, put, add, Numbered, Effect, Plan, stop, go, fetch, own, in-state, moved, faulted}
 use Rattle.semantics.specs.Footprint.{Grant, denied, granted, child-modes, Children, none-made, all-made, children, fan-of}
 use Rattle.semantics.specs.Plan.{wrap, unless-fault, plan-load, plan-store, plan-wait, plan-sum, passed-over, quotient-fault, plan-quotient, child-number, plan-make, plan-instruction, units, step-weight, at-end, plan-start, plan-step, plan-end, Action, start, step, end, plan}
-use Rattle.semantics.specs.Sound.{In, ModesSound, RegistersSound, TaskSound, rank}
+use Rattle.semantics.specs.Sound.{In, ModesSound, RegistersSound, TaskSound, rank, Weighty}
 use Rattle.semantics.proofs.Order.{and-left, and-right}
 use Rattle.semantics.proofs.Modes.{not-zero}
 use Rattle.semantics.proofs.Children.{Made, MadeOne, children-made, alone, fan-fits, fan-in, numbered-in}
@@ -43,13 +43,17 @@ SmallEdit keep = Unit {0}
 SmallEdit (put a v) = v < 2 ^ 32
 SmallEdit (add a v) = Unit {0}
 
+-- a call's weight: at most so much, and at least 1 where the table has no 0
+abbrev pub Fee : Context → ℕ → ℕ → Type 0
+Fee c most w = (w ≤ most) × (Weighty c → 1 ≤ w)
+
 pub record EffectSound (c : Context) (most : ℕ) (t : Task) (e : Effect) : Type 0 where
   pub task : TaskSound c (e .task)
   pub alive : e .task .state ≡ 0 → ⊥
   pub ranked : rank (e .task) ≡ suc (rank t)
   pub paid : e .task .weight ≡ t .weight
   pub edit : SmallEdit (e .edit)
-  pub weight : e .weight ≤ most
+  pub weight : Fee c most (e .weight)
   pub made : (x : Numbered) → In x (e .made) → NewSound c (x .task)
   pub left : e .leaves ≡ true → e .task .state ≡ 3
 
@@ -120,7 +124,7 @@ module _
     rank-fault k = omega arith
 
     on-sound :
-        (w k : ℕ) (rs : List ℕ) → w ≤ most → 0 < k → t .pc + k ≤ length (body-of (c .list) (t .body))
+        (w k : ℕ) (rs : List ℕ) → Fee c most w → 0 < k → t .pc + k ≤ length (body-of (c .list) (t .body))
         → RegistersSound rs → EffectSound c most t (own w (moved k rs t))
     on-sound w k rs m p l q =
         record {
@@ -136,7 +140,7 @@ module _
 
     -- one step on that may edit the memory
     edit-sound :
-        (w : ℕ) (E : Edit) → w ≤ most → SmallEdit E
+        (w : ℕ) (E : Edit) → Fee c most w → SmallEdit E
         → EffectSound c most t (record { task = moved 1 (t .registers) t; edit = E; made = []; leaves = false; weight = w })
     edit-sound w E m s =
         record {
@@ -150,10 +154,10 @@ module _
           left = λ x. absurd (false≢true x);
         }
 
-    set-on : (w a v : ℕ) → w ≤ most → v < 2 ^ 32 → EffectSound c most t (own w (moved 1 (set (t .registers) a v) t))
+    set-on : (w a v : ℕ) → Fee c most w → v < 2 ^ 32 → EffectSound c most t (own w (moved 1 (set (t .registers) a v) t))
     set-on w a v m q = on-sound w 1 (set (t .registers) a v) m (omega arith) (omega arith) (registers-set (t .registers) a v (h .registers) q)
 
-    fails-sound : (w k : ℕ) → w ≤ most → k ≤ 5 → (k ≡ 0 → ⊥) → EffectSound c most t (own w (faulted k t))
+    fails-sound : (w k : ℕ) → Fee c most w → k ≤ 5 → (k ≡ 0 → ⊥) → EffectSound c most t (own w (faulted k t))
     fails-sound w k m p q =
         record {
           task = fault-sound k p q;
@@ -166,17 +170,17 @@ module _
           left = λ x. absurd (false≢true x);
         }
 
-    fault-or : (f w : ℕ) (p : Plan) → w ≤ most → f ≤ 5 → (f ≡ 0 → PlanSound c most t p) → PlanSound c most t (unless-fault f w t p)
+    fault-or : (f w : ℕ) (p : Plan) → Fee c most w → f ≤ 5 → (f ≡ 0 → PlanSound c most t p) → PlanSound c most t (unless-fault f w t p)
     unfolding unless-fault
     fault-or zero w p m l q = q refl
     fault-or (suc k) w p m l q = fails-sound w (suc k) m (omega arith) (not-zero k)
 
     access-or :
-        (o asked w : ℕ) (p : Plan) → w ≤ most → PlanSound c most t p
+        (o asked w : ℕ) (p : Plan) → Fee c most w → PlanSound c most t p
         → PlanSound c most t (unless-fault (access-fault o asked) w t p)
     access-or o asked w p m q = fault-or (access-fault o asked) w p m (omega (arith, fault-most o asked)) (λ _. q)
 
-    quotient-sound : (w a n d : ℕ) → w ≤ most → PlanSound c most t (plan-quotient w t a n d)
+    quotient-sound : (w a n d : ℕ) → Fee c most w → PlanSound c most t (plan-quotient w t a n d)
     unfolding plan-quotient
     quotient-sound w a n d m =
         fault-or (quotient-fault n d) w _ m (quotient-fault-most n d) (λ f. set-on w a _ m (quotient-small n d f))
@@ -216,7 +220,7 @@ module _
         (child-sound (c .list .locations) x (subst (ModesSound (c .list .locations)) (sym (v x i .0)) (h .modes)) ls))
 
     make-sound :
-        (w s k : ℕ) (ys : Children) → w ≤ most → Made (λ f. (f ≤ 2) × (f ≡ 0 → ⊥)) (NewSound c) k ys
+        (w s k : ℕ) (ys : Children) → Fee c most w → Made (λ f. (f ≤ 2) × (f ≡ 0 → ⊥)) (NewSound c) k ys
         → PlanSound c most t (plan-make c w n t s ys)
     unfolding plan-make
     make-sound w s k (none-made f) m q = fails-sound w f m (omega (arith, q .0)) (q .1)
@@ -241,7 +245,7 @@ module _
         (and-left (ltb (t .body) s && ltb s (length (c .list .bodies))) _ q))
 
     instruction-sound :
-        (w : ℕ) → w ≤ most → (i : Instruction) → instruction-ok (scope-of (c .list) (t .body) (t .pc)) i ≡ true
+        (w : ℕ) → Fee c most w → (i : Instruction) → instruction-ok (scope-of (c .list) (t .body) (t .pc)) i ≡ true
         → PlanSound c most t (plan-instruction c w n t i)
     unfolding plan-instruction plan-load plan-store plan-wait plan-sum instruction-ok
     instruction-sound w m (Const a v) q = set-on w a (wrap v) m (wrapped v)
@@ -281,7 +285,7 @@ module _
     instruction-sound w m (Mul a x y) q = quotient-sound w a _ _ m
     instruction-sound w m (Div a x y) q = quotient-sound w a _ _ m
 
--- a step weighs its code's number at most 16 times
+-- a step weighs its code's number at most 16 times, and at least once
 units-most : (at : Scope) (i : Instruction) → instruction-ok at i ≡ true → units i ≤ 16
 unfolding units
 units-most at (Const a v) q = omega arith
@@ -297,6 +301,40 @@ units-most at (Fan s f k) q = fan-fits at s f k q .1
 units-most at (Sum a x) q = omega arith
 units-most at (Mul a x y) q = omega arith
 units-most at (Div a x y) q = omega arith
+
+units-least : (at : Scope) (i : Instruction) → instruction-ok at i ≡ true → 1 ≤ units i
+unfolding units instruction-ok
+units-least at (Const a v) q = omega arith
+units-least at (Add a x y) q = omega arith
+units-least at (Sub a x y) q = omega arith
+units-least at (Less a x y) q = omega arith
+units-least at (Load a x) q = omega arith
+units-least at (Store a x) q = omega arith
+units-least at (Skip a b) q = omega arith
+units-least at (Spawn s f) q = omega arith
+units-least at (Wait a) q = omega arith
+units-least at (Fan s f k) q =
+    leb-true 1 k (and-right (spawn-ok at s f) (leb 1 k) (and-left (spawn-ok at s f && leb 1 k) (leb k 16) q))
+units-least at (Sum a x) q = omega arith
+units-least at (Mul a x y) q = omega arith
+units-least at (Div a x y) q = omega arith
+
+-- the table has a number for each code
+code-place : (i : Instruction) → getD (instruction-fields i) 0 0 + 2 < weight-places
+unfolding instruction-fields weight-places
+code-place (Const a v) = omega arith
+code-place (Add a x y) = omega arith
+code-place (Sub a x y) = omega arith
+code-place (Less a x y) = omega arith
+code-place (Load a x) = omega arith
+code-place (Store a x) = omega arith
+code-place (Skip a b) = omega arith
+code-place (Spawn s f) = omega arith
+code-place (Wait a) = omega arith
+code-place (Fan s f k) = omega arith
+code-place (Sum a x) = omega arith
+code-place (Mul a x y) = omega arith
+code-place (Div a x y) = omega arith
 
 module _
     (c : Context) (ok : Accepted (c .list)) (most : ℕ) (light : (place : ℕ) → 16 * weight-of c place ≤ most) (n : ℕ)
@@ -341,12 +379,17 @@ module _
     rank-end s =
         let z : _≡_ {A = ℕ} (getD (0 ∷ 0 ∷ 1 ∷ 2 ∷ []) (t .state) 0) 1 = ap {B = ℕ} (λ k. getD (0 ∷ 0 ∷ 1 ∷ 2 ∷ []) k 0) s in omega arith
 
-    step-light : (i : Instruction) → instruction-ok (scope-of (c .list) (t .body) (t .pc)) i ≡ true → step-weight c i ≤ most
+    step-fee :
+        (i : Instruction) → instruction-ok (scope-of (c .list) (t .body) (t .pc)) i ≡ true → Fee c most (step-weight c i)
     unfolding step-weight
-    step-light i q =
+    step-fee i q =
         let number = getD (instruction-fields i) 0 0 + 2 in
         let m = mul-le-mul-right (weight-of c number) (units-most _ i q) in
-        omega (arith, m, light number)
+        let l = mul-le-mul-right (weight-of c number) (units-least _ i q) in
+        (omega (arith, m, light number), λ heavy. omega (arith, l, heavy number (code-place i)))
+
+    fee-at : (place : ℕ) → place < weight-places → Fee c most (weight-of c place)
+    fee-at place inside = (omega (arith, light place), λ heavy. heavy place inside)
 
     pub plan-sound : (a : Action) → PlanSound c most t (plan c a n t)
     unfolding plan plan-start plan-step plan-end step-weight
@@ -359,7 +402,7 @@ module _
           ranked = rank-start (eqb-true (t .state) 1 q);
           paid = refl;
           edit = tt;
-          weight = omega (arith, light 0);
+          weight = fee-at 0 (unfold weight-places in omega arith);
           made = λ x i. absurd i;
           left = λ x. absurd (false≢true x);
         })
@@ -372,7 +415,7 @@ module _
         let inside = not-at-end c n t p in
         let fits = ok .instructions (t .body) (t .pc) inside in
         let i = instruction-of (c .list) (t .body) (t .pc) in
-        instruction-sound c ok most n t h (eqb-true (t .state) 2 q) inside (no-fault p) _ (step-light i fits) i fits))
+        instruction-sound c ok most n t h (eqb-true (t .state) 2 q) inside (no-fault p) _ (step-fee i fits) i fits))
         (λ _. tt)
     plan-sound end =
         cond-sound (eqb (t .state) 2) _ _
@@ -385,7 +428,7 @@ module _
           ranked = rank-end (eqb-true (t .state) 2 q);
           paid = refl;
           edit = tt;
-          weight = omega (arith, light 1);
+          weight = fee-at 1 (unfold weight-places in omega arith);
           made = λ x i. absurd i;
           left = λ _. refl;
         })

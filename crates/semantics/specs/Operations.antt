@@ -1,10 +1,10 @@
 -- What else is asked: to open a run, to run a list by hand, one task's record, a location's queue, a search. Document 01, "Calls" and
 -- "Refused, by operation".
-use Prim.Native.Nat.{ℕ, _+_, _*_}
+use Prim.Native.Nat.{ℕ, _+_, _*_, _^_, _<_}
 use mathlib.Core.Path.{_≡_}
 use mathlib.Core.List.{List, map}
 use mathlib.Core.Bool.{true, cond}
-use lib.ListN.{length}
+use lib.ListN.{length, getD}
 use lib.Dec.{leb, ltb, eqb}
 use Rattle.tasklist.specs.Decode.{Decoded, refused, accepted, decode}
 use Rattle.semantics.specs.Run.{Task, Run, Context, context, weight-places, is-weight, mode-of, task-of, initial}
@@ -27,6 +27,11 @@ with-weights weights a =
 pub record WeightsAccepted (weights : List ℕ) : Type 0 where
   pub size : length weights ≡ weight-places
   pub each : every is-weight weights ≡ true
+
+-- the libraries that go with a list: "library length not C" doesn't apply, and each number has 32 bits
+pub record Library (c : Context) (memory : List ℕ) : Type 0 where
+  pub fits : length memory ≡ c .list .locations
+  pub small : (a : ℕ) → getD memory a 0 < 2 ^ 32
 
 -- "Open and hand run: as check, then 8, library length not C."; request 105: "After 8"
 unfoldable pub with-list : {A : Type 0} → Decoded → List ℕ → List ℕ → (Context → A) → Asked A

@@ -6,7 +6,7 @@ use mathlib.Core.List.{List, [], _∷_}
 use mathlib.Core.Logic.{_⊎_}
 use lib.ListN.{length, getD}
 use Rattle.tasklist.specs.TaskList.{body-of, total, task-count}
-use Rattle.semantics.specs.Run.{Task, Run, Context, never, task-of}
+use Rattle.semantics.specs.Run.{Task, Run, Context, never, weight-places, weight-of, task-of}
 use Rattle.semantics.specs.Plan.{child-number}
 
 -- membership
@@ -62,6 +62,14 @@ pub record TaskSound (c : Context) (t : Task) : Type 0 where
 unfoldable pub rank : Task → ℕ
 rank t = getD (0 ∷ 0 ∷ 1 ∷ 2 ∷ []) (t .state) 0 + t .steps
 
+-- a task's weight
+abbrev pub weighs : Task → ℕ
+weighs t = t .weight
+
+-- Request 105: "22 a number not in 1 to 1000". No number of the table is below 1.
+abbrev pub Weighty : Context → Type 0
+Weighty c = (place : ℕ) → place < weight-places → 1 ≤ weight-of c place
+
 -- With no call of a weight above `most`: every counter fits 32 bits where most * 4352 does.
 pub record Sound (c : Context) (most : ℕ) (r : Run) : Type 0 where
   pub valid : Valid c r
@@ -73,3 +81,7 @@ pub record Sound (c : Context) (most : ℕ) (r : Run) : Type 0 where
   pub ranks : total rank (r .tasks) ≡ r .calls
   pub weight : r .weight ≤ most * r .calls
   pub weights : (n : ℕ) → task-of r n .weight ≤ most * r .calls
+  -- the weights of all records together are the run's
+  pub weighed : total weighs (r .tasks) ≡ r .weight
+  -- no accepted call weighs 0: a task weighs at least its calls
+  pub earned : Weighty c → (n : ℕ) → rank (task-of r n) ≤ task-of r n .weight

@@ -5,6 +5,7 @@ use mathlib.Core.List.{List}
 use native.Mathlib.Omega.{arith}
 use lib.ListN.{length, take}
 use lib.Seq.{length-take-le}
+use Rattle.tasklist.proofs.Guarantees.{accepted-same}
 use Rattle.semantics.specs.Run as Semantics
 use Rattle.semantics.specs.Operations.{Asked, denies, gives, with-list, open-asked}
 use Rattle.plans.specs.View.{model as parts-model}
@@ -49,9 +50,6 @@ module _ (bytes weights : List ℕ) (o : Opened) where
   unfolding left-in
   left-told (denies k) h = ap (λ r. r .left) (h .run) ∙ blank-left
   left-told (gives m) h = sym (order-length (o .run) (h .sound)) ∙ ap (λ r. length (r .order)) (h .run)
-
-accepted-same : (a b : TaskList) → accepted a ≡ accepted b → a ≡ b
-accepted-same a b q = cc
 
 module _ (bytes memory weights : List ℕ) (calls : List Call) (o : Opened) where
   abbrev after-calls : Context → Semantics.Run

@@ -14,8 +14,9 @@ use Rattle.run_rounds.specs.declared.RoundsTable.{RoundsTable}
 use Rattle.run_rounds.specs.Reports.{most-calls}
 use Rattle.wording.specs.Wording.{followed, line}
 use Rattle.host_rounds.specs.Lines.{used, row, rows, enough-from, calls-word, span-word, enough-word, none-line, enough-line, table-lines}
-use Rattle.host_rounds.specs.Promises.{PutAt, rounds-at, calls-in}
-use Rattle.host_rounds.proofs.PutLaws.{put-then, put-rest, put-over, put-at, put-by}
+use Rattle.wording.specs.Promises.{PutAt}
+use Rattle.host_rounds.specs.Promises.{rounds-at, calls-in}
+use Rattle.wording.proofs.PutLaws.{put-then, put-rest, put-over, put-at, put-by}
 
 -- the workers' time and a hundred times the calls have 32 bits
 pub few-time : (workers rounds : ℕ) → workers ≤ most-workers → rounds ≤ most-rounds → workers * rounds < 2 ^ 32

@@ -4,34 +4,13 @@ ghost use mathlib.Core.Path.{_≡_};
 ghost use lib.ListN.{length};
 ghost use Rattle.model_rounds.specs.Rounds.{most-rounds, most-workers};
 ghost use Rattle.run_rounds.specs.Reports.{most-calls, TableSize};
-ghost use Rattle.wording.specs.Wording.{followed};
+ghost use Rattle.wording.specs.Promises.{PutAt};
 ghost use Rattle.host_rounds.specs.Lines.{used, row, rows};
-ghost use Rattle.host_rounds.specs.Promises.{PutAt, rounds-at, calls-in};
+ghost use Rattle.host_rounds.specs.Promises.{rounds-at, calls-in};
 use run_rounds::REPORTS;
 use run_rounds::RoundsTable;
-use wording::put_followed;
-
-// Puts bytes at `at` and gives the position behind them.
-pub fn put_word(out: &mut [u8], at: usize, word: &[u8]) -> usize
-    requires { ⌜ at + length (now word) ≤ length (now out) ⌝ }
-    ensures { λ r. ⌜ PutAt (now (word .entry)) (now (out .entry)) at (now (out .exit)) r ⌝ }
-{
-    let mut i = 0;
-    while i < word.len() {
-        out[at + i] = word[i];
-        i += 1;
-    }
-    at + i
-}
-
-// Puts a number and the byte behind it at `at`, and gives the position behind both.
-pub fn put_number(out: &mut [u8], at: usize, n: u32, behind: u8) -> usize
-    requires { ⌜ at + 11 ≤ length (now out) ⌝ }
-    ensures put { λ r. ⌜ PutAt (followed n behind) (now (out .entry)) at (now (out .exit)) r ⌝ }
-    ensures most { λ r. ⌜ r ≤ at + 11 ⌝ }
-{
-    put_followed(out, at, n, behind)
-}
+use wording::put_number;
+use wording::put_word;
 
 // How much of the workers' time is used, in whole percent.
 fn percent_used(calls: u32, workers: u32, rounds: u32) -> u32

@@ -7,17 +7,17 @@ ghost use Rattle.semantics.specs.Run.{fixed-weights};
 ghost use Rattle.semantics.specs.Operations.{open-asked};
 ghost use Rattle.model_rounds.specs.Rounds.{most-workers};
 ghost use Rattle.run_rounds.specs.Reports.{TableSize, TabledAs};
-ghost use Rattle.wording.specs.Promises.{Wrote, given};
+ghost use Rattle.wording.specs.Promises.{Wrote, PutAt, given};
 ghost use Rattle.host_rounds.specs.Lines.{enough-from, enough-line, table-lines, room, rounds-text};
-ghost use Rattle.host_rounds.specs.Promises.{PutAt, rounds-at, calls-in};
+ghost use Rattle.host_rounds.specs.Promises.{rounds-at, calls-in};
 use crate::ROOM;
-use crate::lines::put_number;
 use crate::lines::put_rows;
-use crate::lines::put_word;
 use run_rounds::REPORTS;
 use run_rounds::RoundsTable;
 use wording::open_line;
 use wording::open_number;
+use wording::put_number;
+use wording::put_word;
 
 // The least number of workers whose rounds equal the span; 0 where more than 16 would help.
 fn enough(table: RoundsTable) -> u32

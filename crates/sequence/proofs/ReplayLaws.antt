@@ -9,6 +9,7 @@ use lib.Seq.{drop-cons}
 use Rattle.tasklist.specs.TaskList.{TaskList}
 use Rattle.tasklist.specs.Decode.{accepted, decode}
 use Rattle.tasklist.specs.Tables.{list-of}
+use Rattle.tasklist.proofs.Guarantees.{accepted-same}
 use Rattle.semantics.specs.Run.{Context, context, initial}
 use Rattle.semantics.specs.Run as Semantics
 use Rattle.semantics.specs.Plan.{Action, start, step, «end»}
@@ -66,9 +67,6 @@ module _ (kinds tasks : List ℕ) (from : Run) where
       (subst (λ ks. CallsMade (calls-of ks (drop i tasks)) r d) (sym (drop-cons kinds i 0 p))
       (subst (λ ns. CallsMade (calls-of (getD kinds i 0 ∷ drop (suc i) kinds) ns) r d) (sym (drop-cons tasks i 0 q))
       (calls-append (calls-of-kind (getD kinds i 0) (getD tasks i 0)) (calls-of (drop (suc i) kinds) (drop (suc i) tasks)) r next d one more)))
-
-accepted-same : (a b : TaskList) → accepted a ≡ accepted b → a ≡ b
-accepted-same a b q = cc
 
 -- the blank run has no task left; a fresh one has
 blank-left : blank-run .left ≡ 0

@@ -214,6 +214,10 @@ module _ (l : TaskList) (ok : (s i : ℕ) → i < length (body-of l s) → instr
           (rw (List·getD-eq-default (l .bodies) [] past))
       by-place false q = count-at (l .bodies) s (leb-false (length (l .bodies)) s q) ∙ same-sum s
 
+-- bytes stand for one list
+pub accepted-same : (a b : TaskList) → accepted a ≡ accepted b → a ≡ b
+accepted-same a b q = cc
+
 pub accepted-list : (b : List ℕ) (l : TaskList) → decode b ≡ accepted l → Accepted l
 unfolding footprint body body-of footprint-of instruction-of
 accepted-list b l e =

@@ -18,8 +18,8 @@ use Rattle.semantics.specs.Operations.{with-weights, with-list}
 use Rattle.semantics.specs.Answers.{outcome-number}
 use Rattle.runtime.specs.Calls.{calls-of-kind}
 use Rattle.lent.specs.Lines.{calls-in, line, lines}
-use Rattle.wording.specs.Wording.{digits-within, digits, followed, totals, closing}
-use Rattle.transcript.specs.Transcript.{lines-from, printed, transcript}
+use Rattle.wording.specs.Wording.{digits-within, digits, followed, totals, closing, printed}
+use Rattle.transcript.specs.Transcript.{lines-from, transcript}
 
 -- library.bin: 5, 7
 abbrev pub P-library : List ℕ

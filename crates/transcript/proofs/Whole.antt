@@ -10,6 +10,7 @@ use Rattle.tasklist.specs.TaskList.{TaskList}
 use Rattle.tasklist.specs.Decode.{accepted, decode}
 use Rattle.tasklist.specs.Encode.{joined}
 use Rattle.tasklist.specs.Tables.{list-of}
+use Rattle.tasklist.proofs.Guarantees.{accepted-same}
 use Rattle.library.specs.Library.{memory-of}
 use Rattle.semantics.specs.Run.{Context, context, fixed-weights, initial}
 use Rattle.semantics.specs.Run as Semantics
@@ -27,11 +28,11 @@ use Rattle.lent.specs.Lines.{calls-in, lines}
 use Rattle.lent.specs.Lines as Called
 use Rattle.wording.specs.declared.Pending.{Pending}
 use Rattle.wording.specs.declared.Pending.the-variants.{Nothing, Kind}
-use Rattle.wording.specs.Wording.{line, closing, refused-line}
+use Rattle.wording.specs.Wording.{line, closing, refused-line, printed}
 use Rattle.wording.specs.Promises.{given, Wrote, open-bytes, half-bytes}
 use Rattle.wording.proofs.ClosingLaws.{with-room}
 use Rattle.transcript.specs.declared.Fed.{Fed}
-use Rattle.transcript.specs.Transcript.{lines-from, printed, transcript}
+use Rattle.transcript.specs.Transcript.{lines-from, transcript}
 use Rattle.transcript.specs.Promises.{whole-of, half-of, pending-bytes, FedAs}
 use Rattle.transcript.proofs.PieceLaws.{exceeds-none, used-all}
 
@@ -144,9 +145,6 @@ session-lines (piece ∷ pieces) run p shown s (f, now-shown, later, t, rest, e)
     e ∙ ap (λ x. x ++ later) lines ∙ ap (λ x. whole-lines c (model run) bytes ++ x) left
     ∙ sym (lines-split c (model run) bytes (all-of pieces))
     ∙ ap (lines-from c (model run)) (append-assoc (pending-bytes p) piece (all-of pieces))
-
-accepted-same : (a b : TaskList) → accepted a ≡ accepted b → a ≡ b
-accepted-same a b q = cc
 
 -- The law
 pub prints-the-transcript :

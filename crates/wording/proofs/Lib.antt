@@ -2,3 +2,4 @@
 pub mod DigitLaws
 pub mod ClosingLaws
 pub mod OpeningLaws
+pub mod PutLaws

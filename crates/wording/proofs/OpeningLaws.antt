@@ -13,7 +13,7 @@ use Rattle.tasklist.proofs.Guarantees.{accepted-list}
 use Rattle.library.specs.Library.{memory-of, fitting}
 use Rattle.library.proofs.LibraryLaws.{fits-alike}
 use Rattle.semantics.specs.Operations.{denies, with-weights, with-list, open-asked}
-use Rattle.semantics.specs.Run.{Context, context, initial}
+use Rattle.semantics.specs.Run.{Run, Context, context, initial}
 use Rattle.runtime.specs.Asked.{OpenedAs}
 use Rattle.runtime.specs.declared.Opened.{Opened}
 use Rattle.wording.specs.Wording.{line, refused-line}
@@ -37,16 +37,22 @@ asked-fitting {A} jobs library weights f = by-list (decode jobs) refl
         fits-alike library (l .locations) (λ m. with-weights weights (f (context l weights) m)) (denies 8) (ok .some-location)
         (ok .most-locations)
 
-open-fitting : (jobs library weights : List ℕ) → open-asked jobs (fitting library) weights ≡ open-asked jobs (memory-of library) weights
-unfolding open-asked
-open-fitting jobs library weights = asked-fitting jobs library weights (λ c m. initial c m)
+-- what is opened by the numbers that were read, under the weights of today
+pub asked-by :
+    (f : Context → List ℕ → Run) (jobs library memory weights today : List ℕ) (o : Opened) → memory ≡ fitting library
+    → weights ≡ today → OpenedAs jobs weights (with-list (decode jobs) memory weights (λ c. f c memory)) o
+    → OpenedAs jobs today (with-list (decode jobs) (memory-of library) today (λ c. f c (memory-of library))) o
+asked-by f jobs library memory weights today o e w h =
+    subst (λ a. OpenedAs jobs today a o)
+    (ap (λ m. with-list (decode jobs) m today (λ c. f c m)) e ∙ asked-fitting jobs library today f)
+    (subst (λ ws. OpenedAs jobs ws (with-list (decode jobs) memory ws (λ c. f c memory)) o) w h)
 
 pub opened-by :
     (jobs library memory weights today : List ℕ) (o : Opened) → memory ≡ fitting library → weights ≡ today
     → OpenedAs jobs weights (open-asked jobs memory weights) o → OpenedAs jobs today (open-asked jobs (memory-of library) today) o
+unfolding open-asked
 opened-by jobs library memory weights today o e w h =
-    subst (λ a. OpenedAs jobs today a o) (ap (λ m. open-asked jobs m today) e ∙ open-fitting jobs library today)
-    (subst (λ ws. OpenedAs jobs ws (open-asked jobs memory ws) o) w h)
+    asked-by (λ c m. initial c m) jobs library memory weights today o e w h
 
 -- a list's refusal is 1 to 7
 pub refusal-most : (k : Refusal) → Listed.refusal-number k ≤ 22

@@ -7,6 +7,7 @@ use lib.ListN.{length}
 use lib.Dec.{ltb}
 use Rattle.tasklist.specs.Encode.{joined}
 use Rattle.semantics.specs.Run.{Run}
+use Rattle.semantics.specs.Operations.{Asked, denies, gives}
 
 -- the digits of a number, with so many steps to spare
 unfoldable pub digits-within : ℕ → ℕ → List ℕ
@@ -36,3 +37,8 @@ closing r = joined line (r .memory) ++ totals (r .calls) (r .weight) (length (r 
 -- "A failed open prints one line, as `refused 1`."
 unfoldable pub refused-line : ℕ → List ℕ
 refused-line k = 114 ∷ 101 ∷ 102 ∷ 117 ∷ 115 ∷ 101 ∷ 100 ∷ 32 ∷ line k
+
+-- the line of a failed open, "Else" the lines of the run
+unfoldable pub printed : Asked (List ℕ) → List ℕ
+printed (denies k) = refused-line k
+printed (gives lines) = lines

@@ -10,6 +10,7 @@ pub enum Pending {
 mod closing;
 mod decimal;
 mod opening;
+mod putting;
 
 pub use closing::closing_lines;
 pub use closing::half_line;
@@ -17,3 +18,5 @@ pub use decimal::put_followed;
 pub use opening::open_files;
 pub use opening::open_line;
 pub use opening::open_number;
+pub use putting::put_number;
+pub use putting::put_word;

@@ -25,13 +25,22 @@ same-length c = search needs
 
 returns : tie.Need-returns
 returns c =
-    let a = c .before .before .before .before .before .before .before .before .before .before .before .before .before .before .before .before .before .before .args in
+    let start = c .before .before .before .before .before .before .before .before .before .before .before .before .before .before .before .before .before .before in
+    let a = start .args in
     let one = c .before .before .before .before .before .before .before .before .before .before .before .before .before .before .before .put-number in
+    let one-put = one .ensures .room (omega (arith, start .pre)) in
+    let one-most = one .ensures .most (omega (arith, start .pre)) in
     let two = c .before .before .before .before .before .before .before .before .before .before .before .put-number2 in
+    let two-put = two .ensures .room (omega (arith, start .pre, one-put .long, one-most)) in
+    let two-most = two .ensures .most (omega (arith, start .pre, one-put .long, one-most)) in
     let three = c .before .before .before .before .before .before .before .put-number3 in
-    let feed = c .before .before .put-word in (
-      row-put (a .workers) (a .rounds) (a .percent) (one .ensures .0) (two .ensures .0) (three .ensures .0) (feed .ensures),
-      omega (arith, one .ensures .1, two .ensures .1, three .ensures .1, feed .ensures .behind),
+    let three-put = three .ensures .room (omega (arith, start .pre, one-put .long, one-most, two-put .long, two-most)) in
+    let three-most = three .ensures .most (omega (arith, start .pre, one-put .long, one-most, two-put .long, two-most)) in
+    let feed = c .before .before .put-word in
+    let feed-put = feed .ensures .room (omega (arith, start .pre, one-put .long, one-most, two-put .long, two-most, three-put .long, three-most)) in
+    let feed-most = feed .ensures .most (omega (arith, start .pre, one-put .long, one-most, two-put .long, two-most, three-put .long, three-most)) in (
+      row-put (a .workers) (a .rounds) (a .percent) one-put two-put three-put feed-put,
+      omega (arith, one-most, two-most, three-most, feed-most),
     )
 
 pub put-row-spec : {M : Type 1} → statement M

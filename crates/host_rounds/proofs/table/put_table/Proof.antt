@@ -28,38 +28,68 @@ put-number-requires-2 : tie.Need-put-number-requires-2
 put-number-requires-2 c κs = search needs
 
 put-rows-requires : tie.Need-put-rows-requires
-put-rows-requires c κs = search needs
+put-rows-requires c κs =
+    let start = c .before .before .before .before .before .before .before .before .before .before .before .before .before .before .before .before .before .before .before .before .before in
+    let first = c .before .before .before .before .before .before .before .before .before .before .before .before .before .before .before .before .before .put-word in
+    let first-put = first .ensures .room (omega (arith, start .pre .0)) in
+    let first-most = first .ensures .most (omega (arith, start .pre .0)) in
+    let second = c .before .before .before .before .before .before .before .before .before .before .before .before .put-number in
+    let second-put = second .ensures .room (omega (arith, start .pre .0, first-put .long, first-most)) in
+    let second-most = second .ensures .most (omega (arith, start .pre .0, first-put .long, first-most)) in
+    let third = c .before .before .before .before .before .before .before .put-word2 in
+    let third-put = third .ensures .room (omega (arith, start .pre .0, first-put .long, first-most, second-put .long, second-most)) in
+    let third-most = third .ensures .most (omega (arith, start .pre .0, first-put .long, first-most, second-put .long, second-most)) in
+    let fourth = c .before .before .before .put-number2 in
+    let fourth-put = fourth .ensures .room (omega (arith, start .pre .0, first-put .long, first-most, second-put .long, second-most, third-put .long, third-most)) in
+    let fourth-most = fourth .ensures .most (omega (arith, start .pre .0, first-put .long, first-most, second-put .long, second-most, third-put .long, third-most)) in
+    (omega (arith, start .pre .0, first-put .long, first-most, second-put .long, second-most, third-put .long, third-most, fourth-put .long, fourth-most), start .pre .1)
 
 enough-requires : tie.Need-enough-requires
 enough-requires c κs = search needs
 
 put-enough-requires : tie.Need-put-enough-requires
-put-enough-requires c κs = search needs
+put-enough-requires c κs =
+    let start = c .before .before .before .before .before .before .before .before .before .before .before .before .before .before .before .before .before .before .before .before .before .before .before .before .before .before in
+    let first = c .before .before .before .before .before .before .before .before .before .before .before .before .before .before .before .before .before .before .before .before .before .before .put-word in
+    let first-put = first .ensures .room (omega (arith, start .pre .0)) in
+    let first-most = first .ensures .most (omega (arith, start .pre .0)) in
+    let second = c .before .before .before .before .before .before .before .before .before .before .before .before .before .before .before .before .before .put-number in
+    let second-put = second .ensures .room (omega (arith, start .pre .0, first-put .long, first-most)) in
+    let second-most = second .ensures .most (omega (arith, start .pre .0, first-put .long, first-most)) in
+    let third = c .before .before .before .before .before .before .before .before .before .before .before .before .put-word2 in
+    let third-put = third .ensures .room (omega (arith, start .pre .0, first-put .long, first-most, second-put .long, second-most)) in
+    let third-most = third .ensures .most (omega (arith, start .pre .0, first-put .long, first-most, second-put .long, second-most)) in
+    let fourth = c .before .before .before .before .before .before .before .before .put-number2 in
+    let fourth-put = fourth .ensures .room (omega (arith, start .pre .0, first-put .long, first-most, second-put .long, second-most, third-put .long, third-most)) in
+    let fourth-most = fourth .ensures .most (omega (arith, start .pre .0, first-put .long, first-most, second-put .long, second-most, third-put .long, third-most)) in
+    let fifth = c .before .before .before .before .put-rows in
+    omega (arith, start .pre .0, first-put .long, first-most, second-put .long, second-most, third-put .long, third-most, fourth-put .long, fourth-most, fifth .ensures .0 .long, fifth .ensures .1)
 
 same-length : tie.Need-same-length
 same-length c = search needs
 
 returns : tie.Need-returns
 returns c =
-    let t = c .before .before .before .before .before .before .before .before .before .before .before .before .before .before .before .before .before .before .before .before .before .before .before .before .before .before .before .before .before .args .t1 in
+    let start = c .before .before .before .before .before .before .before .before .before .before .before .before .before .before .before .before .before .before .before .before .before .before .before .before .before .before .before .before .before in
+    let t = start .args .t1 in
     let first = c .before .before .before .before .before .before .before .before .before .before .before .before .before .before .before .before .before .before .before .before .before .before .before .before .before .put-word in
+    let first-put = first .ensures .room (omega (arith, start .pre .0)) in
+    let first-most = first .ensures .most (omega (arith, start .pre .0)) in
     let second = c .before .before .before .before .before .before .before .before .before .before .before .before .before .before .before .before .before .before .before .before .put-number in
+    let second-put = second .ensures .room (omega (arith, start .pre .0, first-put .long, first-most)) in
+    let second-most = second .ensures .most (omega (arith, start .pre .0, first-put .long, first-most)) in
     let third = c .before .before .before .before .before .before .before .before .before .before .before .before .before .before .before .put-word2 in
+    let third-put = third .ensures .room (omega (arith, start .pre .0, first-put .long, first-most, second-put .long, second-most)) in
+    let third-most = third .ensures .most (omega (arith, start .pre .0, first-put .long, first-most, second-put .long, second-most)) in
     let fourth = c .before .before .before .before .before .before .before .before .before .before .before .put-number2 in
+    let fourth-put = fourth .ensures .room (omega (arith, start .pre .0, first-put .long, first-most, second-put .long, second-most, third-put .long, third-most)) in
+    let fourth-most = fourth .ensures .most (omega (arith, start .pre .0, first-put .long, first-most, second-put .long, second-most, third-put .long, third-most)) in
     let fifth = c .before .before .before .before .before .before .before .put-rows in
     let least = c .before .before .before .enough in
     let last = c .before .before .put-enough in (
-      table-put (calls-in t) (t .span) (rounds-at t) (least .result) (least .ensures) (first .ensures) (second .ensures .0) (third .ensures)
-          (fourth .ensures .0) (fifth .ensures .0) (last .ensures .0),
-      omega (
-        arith,
-        first .ensures .behind,
-        second .ensures .1,
-        third .ensures .behind,
-        fourth .ensures .1,
-        fifth .ensures .1,
-        last .ensures .1,
-      ),
+      table-put (calls-in t) (t .span) (rounds-at t) (least .result) (least .ensures) first-put second-put third-put fourth-put
+          (fifth .ensures .0) (last .ensures .0),
+      omega (arith, first-most, second-most, third-most, fourth-most, fifth .ensures .1, last .ensures .1),
     )
 
 pub put-table-spec : {M : Type 1} → statement M

@@ -8,7 +8,7 @@ use Rattle.wording.proofs.ClosingLaws.{no-room, with-room, wrote-none}
 use Rattle.wording.proofs.OpeningLaws.{open-some}
 use Rattle.host_rounds.specs.Lines.{table-lines, rounds-text}
 use Rattle.host_rounds.specs.Promises.{rounds-at, calls-in}
-use Rattle.host_rounds.proofs.PutLaws.{put-wrote}
+use Rattle.wording.proofs.PutLaws.{put-wrote}
 use Rattle.host_rounds.proofs.FileLaws.{text-refused, text-given}
 use borrow.Author.Needs.{needs}
 use Rattle.host_rounds.proofs.table.rounds_lines.Statement.{statement}

@@ -3,9 +3,9 @@ use Prim.Native.Nat.{_-_}
 use lib.ListN.{length}
 use denote.Ref.{now}
 use borrow.Author.Needs.{needs}
-use Rattle.host_rounds.proofs.PutLaws.{Putting, putting-none, putting-more, putting-all}
-use Rattle.host_rounds.proofs.lines.put_word.Statement.{statement}
-use Rattle.host_rounds.proofs.lines.put_word.Tie as tie
+use Rattle.wording.proofs.PutLaws.{Putting, putting-none, putting-more, putting-all}
+use Rattle.wording.proofs.putting.put_bytes.Statement.{statement}
+use Rattle.wording.proofs.putting.put_bytes.Tie as tie
 
 abbrev Inv-loop : tie.InvT-loop
 Inv-loop out₀ at word i₀ out i = Putting word out₀ at out i
@@ -49,8 +49,8 @@ returns c =
     let a = c .before .before .args in
     putting-all (now (a .word)) (now (a .out)) (a .at) (l .out) (l .i) (l .inv) (c .loop-test .left)
 
-pub put-word-spec : {M : Type 1} → statement M
-put-word-spec =
+pub put-bytes-spec : {M : Type 1} → statement M
+put-bytes-spec =
     tie.close
     (tie.spec
     Inv-loop

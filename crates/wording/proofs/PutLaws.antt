@@ -5,11 +5,10 @@ use mathlib.Core.List.{List, [], _++_}
 use native.Mathlib.Omega.{arith}
 use native.Mathlib.Nat.{zero-add}
 use lib.ListN.{length, drop, getD, set, length-append, length-set, drop-of-length-le}
-use lib.Seq.{sets, length-sets, drop-cons}
+use lib.Seq.{sets, length-sets, sets-eq, drop-cons, drop-at}
 use Rattle.tasklist.proofs.WriterLaws.{sets-append}
-use Rattle.wording.specs.Promises.{Wrote}
+use Rattle.wording.specs.Promises.{Wrote, PutAt, PutIf}
 use Rattle.wording.proofs.ClosingLaws.{wrote-all}
-use Rattle.host_rounds.specs.Promises.{PutAt}
 
 module _ {x before after : List ℕ} {at stop : ℕ} (p : PutAt x before at after stop) where
   -- one behind the other
@@ -88,3 +87,30 @@ pub put-wrote :
     → PutAt bytes before 0 after n → Wrote given-bytes before after n
 put-wrote given-bytes bytes before after n g room p =
     wrote-all given-bytes bytes before after n g room (p .behind ∙ zero-add (length bytes)) (p .places)
+
+-- with room, and without
+pub put-with :
+    (wanted : ℕ) (x before : List ℕ) (at : ℕ) (after : List ℕ) (stop : ℕ) → at + wanted ≤ length before → length x ≤ wanted
+    → PutAt x before at after stop → PutIf wanted x before at after stop
+put-with wanted x before at after stop h few p =
+    record {
+      room = λ _. p;
+      most = λ _. omega (arith, p .behind);
+      without = λ l. let bad : ⊥ = omega arith in absurd bad;
+    }
+
+pub put-without : (wanted : ℕ) (x before : List ℕ) (at : ℕ) → length before < at + wanted → PutIf wanted x before at before at
+put-without wanted x before at h =
+    record {
+      room = λ l. let bad : ⊥ = omega arith in absurd bad;
+      most = λ l. let bad : ⊥ = omega arith in absurd bad;
+      without = λ _. (refl, refl);
+    }
+
+-- what stands behind bytes at the front is as it was
+pub put-behind : (x before after : List ℕ) (n : ℕ) → PutAt x before 0 after n → n ≤ length before → drop n after ≡ drop n before
+put-behind x before after n p h =
+    let long : length x ≡ n = omega (arith, p .behind, zero-add (length x)) in
+    ap (drop n) (p .places ∙ sets-eq x before 0 (omega (arith, long, zero-add (length x))))
+    ∙ drop-at x (drop (0 + length x) before) n long
+    ∙ ap (λ k. drop k before) (zero-add (length x) ∙ long)

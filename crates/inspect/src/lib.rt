@@ -1,14 +1,16 @@
-// What is asked of a run: a task's record, a location's queue, a task's search, the accepted list's bytes.
-ghost use Prim.Native.Nat.{ℕ, _+_, _≤_, min};
+// What is asked of a run: how many tasks are left, a task's record, how many numbers a body's block has, a location's queue, a
+// task's search, the accepted list's bytes.
+ghost use Prim.Native.Nat.{ℕ, _+_, _≤_, _<_, min};
 ghost use mathlib.Core.Path.{_≡_};
 ghost use lib.ListN.{length};
 ghost use lib.Seq.{sets};
 ghost use Rattle.tasklist.specs.Encode.{encode};
-ghost use Rattle.tasklist.specs.Tables.{list-of};
+ghost use Rattle.tasklist.specs.TaskList.{task-count};
+ghost use Rattle.tasklist.specs.Tables.{list-of, capped};
 ghost use Rattle.tasklist.specs.Answers.{written, write-answer, write-places};
 ghost use Rattle.semantics.specs.Operations.{record-asked, queue-asked, search-asked};
 ghost use Rattle.ahead.specs.Ahead.{accesses-of};
-ghost use Rattle.runtime.specs.View.{model, context-of};
+ghost use Rattle.runtime.specs.View.{model, context-of, SoundRun};
 ghost use Rattle.runtime.specs.Asked.{recorded, QueuedAs};
 ghost use Rattle.runtime.specs.Parts.{shown, all-shown};
 ghost use Rattle.inspect.specs.Told.{told};
@@ -30,7 +32,7 @@ pub enum SearchAnswer {
 
 // A byte as an index.
 fn wide(x: u8) -> usize
-    ensures { λ r. ⌜ r ≡ x ⌝ }
+    ensures { λ r. ⌜ (r ≡ x) × (r < 256) ⌝ }
 {
     x as usize
 }
@@ -91,6 +93,23 @@ fn put_queue(run: Run, location: usize, out: &mut [u16])
         at = put_place(out, at, task, mode);
         i += 1;
     }
+}
+
+// How many tasks are left: those of the order.
+pub fn tasks_left(run: Run) -> usize
+    ensures { λ r. ⌜ r ≡ length (model run .order) ⌝ }
+{
+    within(run.left)
+}
+
+// How many numbers the block of a task of this body has, its own and those of all that come of it; 129 stands for more than
+// 128.
+pub fn block_size(run: Run, body: u8) -> usize
+    ensures sound { λ r. ⌜ (SoundRun run → r ≡ capped (task-count (context-of run .list) body)) ⌝ }
+    ensures most { λ r. ⌜ r < 256 ⌝ }
+{
+    let accepted = run.tables;
+    wide(listing::task_count(accepted, wide(body)))
 }
 
 // One task's record with its 64 modes: 9 number above 127.

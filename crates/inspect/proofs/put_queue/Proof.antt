@@ -59,7 +59,7 @@ put-place-requires c κs =
     let task = getD (run .order) (at .i) 0 in
     let mode = c .before .mode-at .result in
     let read : mode ≡ getD (row task (run .modes)) location 0 =
-    c .before .mode-at .ensures (at .inv .1) ∙ ap (λ (k : ℕ). getD (row k (run .modes)) location 0) (c .before .before .wide .ensures) in
+    c .before .mode-at .ensures (at .inv .1) ∙ ap (λ (k : ℕ). getD (row k (run .modes)) location 0) (c .before .before .wide .ensures .0) in
     let here = shown-here run location (at .inv .0) (at .i) left (at .inv .2) (omega arith) task mode refl read in
     let inside = in-order run location (at .inv .0) (at .i) left (at .inv .2) (omega arith) in
     put-fits (shown-at run location) xs whole stop (at .out) (at .at) (at .i) 0 (length (shown task mode)) inside (ap length here) (at .inv .4)
@@ -82,7 +82,7 @@ loop-again c =
     let task = getD (run .order) (at .i) 0 in
     let mode = c .before .before .before .before .mode-at .result in
     let read : mode ≡ getD (row task (run .modes)) location 0 =
-    c .before .before .before .before .mode-at .ensures (at .inv .1) ∙ ap (λ (k : ℕ). getD (row k (run .modes)) location 0) (c .before .before .before .before .before .wide .ensures) in
+    c .before .before .before .before .mode-at .ensures (at .inv .1) ∙ ap (λ (k : ℕ). getD (row k (run .modes)) location 0) (c .before .before .before .before .before .wide .ensures .0) in
     let here = shown-here run location (at .inv .0) (at .i) left (at .inv .2) (omega arith) task mode refl read in
     let inside = in-order run location (at .inv .0) (at .i) left (at .inv .2) (omega arith) in
     let put = c .before .before .put-place in (

@@ -59,7 +59,7 @@ loop-again c =
       omega arith,
       omega (arith, c .width .ensures .1, at .inv .4),
       count-more run (c .before .before .before .before .before .before .before .before .before .args .location) (at .inv .0) (at .i) (c .before .before .before .before .before .before .before .before .within .result) (at .inv .2) (omega arith) (at .n) (c .width .result) (c .before .before .before .before .wide .result) (mode .result)
-          (c .before .before .before .before .wide .ensures) (mode .ensures (at .inv .1)) (c .width .ensures .0 (c .before .before .before .before .wide .result)) (at .inv .5),
+          (c .before .before .before .before .wide .ensures .0) (mode .ensures (at .inv .1)) (c .width .ensures .0 (c .before .before .before .before .wide .result)) (at .inv .5),
     )
 
 returns : tie.Need-returns Inv-loop μ-loop

@@ -6,6 +6,9 @@ ghost use Rattle.lent.specs.Pieces.{LentAs, LentOf};
 use runtime::Run;
 use semantics::Answer;
 
+// The bytes of an input that the lender takes at once.
+pub const PIECE: usize = 512;
+
 // A piece of the coordinator's input, the call at hand, and the numbers answered so far.
 pub struct Piece {
     // Whether there is one more call (document 01: two bytes, or half a call), its kind and its task.
@@ -17,7 +20,7 @@ pub struct Piece {
     pub answers: [u8; 256],
     // The bytes of the piece.
     pub length: usize,
-    pub input: [u8; 512],
+    pub input: [u8; PIECE],
 }
 
 // What the lender hands back: the run after the calls, and the piece with every number.
@@ -76,7 +79,7 @@ fn lend_each(run: Run, piece: Piece) -> Lent
     Lent { run: r, piece: p }
 }
 
-// Makes the calls of the first 512 bytes of an input on a run.
+// Makes the calls of the first PIECE bytes of an input on a run.
 pub fn lend(run: Run, input: &[u8]) -> Lent
     ensures { λ r. ⌜ LentOf (now (input .entry)) run r ⌝ }
 {

@@ -4,6 +4,7 @@ ghost use mathlib.Core.Path.{_≡_};
 ghost use lib.ListN.{length, take};
 ghost use Rattle.semantics.specs.Answers.{answer-number, refusal-number};
 ghost use Rattle.lent.specs.Pieces.{FacedAs, NotedAs, PieceOf};
+use crate::PIECE;
 use crate::Piece;
 use semantics::Answer;
 use semantics::CallRefusal;
@@ -92,18 +93,18 @@ pub fn strayed(piece: Piece) -> Piece
 fn held(length: usize) -> usize
     ensures { λ r. ⌜ (r ≤ length) × ((r ≤ 512) × (r < 512 → r ≡ length)) ⌝ }
 {
-    if 512 < length {
-        return 512;
+    if PIECE < length {
+        return PIECE;
     }
     length
 }
 
 // The first bytes of an input, then zeros.
-fn bytes_of(input: &[u8], count: usize) -> [u8; 512]
+fn bytes_of(input: &[u8], count: usize) -> [u8; PIECE]
     requires { ⌜ (count ≤ length (now input)) × (count ≤ 512) ⌝ }
     ensures { λ r. ⌜ take count r ≡ take count (now (input .entry)) ⌝ }
 {
-    let mut bytes = [0u8; 512];
+    let mut bytes = [0u8; PIECE];
     let mut i = 0;
     while i < count {
         bytes[i] = input[i];
@@ -112,7 +113,7 @@ fn bytes_of(input: &[u8], count: usize) -> [u8; 512]
     bytes
 }
 
-// The piece of an input's first 512 bytes, with its first call at hand.
+// The piece of an input's first PIECE bytes, with its first call at hand.
 pub fn piece_of(input: &[u8]) -> Piece
     ensures { λ r. ⌜ PieceOf (now (input .entry)) r ⌝ }
 {

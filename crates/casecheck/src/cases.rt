@@ -4,6 +4,7 @@ use crate::asks::put_memory;
 use crate::asks::put_record;
 use crate::asks::put_records;
 use crate::asks::put_totals;
+use crate::bill::put_shares;
 use crate::file::word;
 use crate::file::word_count;
 use crate::file::words;
@@ -65,7 +66,8 @@ fn put_state(run: Run, out: &mut [u8; 4096], at: usize) -> usize {
     o = put_list(run, out, o);
     o = put_short_list(run, out, o);
     o = put_searches(run, out, o);
-    put_moves(run, out, o)
+    o = put_moves(run, out, o);
+    put_shares(run, b"", out, o)
 }
 
 // The sequential run (document 01: the hand run).
@@ -86,7 +88,8 @@ fn put_hand(hand: Opened, out: &mut [u8; 4096], at: usize) -> usize {
     let run = hand.run;
     let mut o = put_totals(run, b"hand", out, at);
     o = put_memory(run, b"hand entries", out, o);
-    put_records(run, b"hand record", out, o)
+    o = put_records(run, b"hand record", out, o);
+    put_shares(run, b"hand ", out, o)
 }
 
 // The lines of a case behind its number.

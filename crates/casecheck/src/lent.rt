@@ -36,7 +36,7 @@ fn bytes_kept(bytes: [u8; 4805], from: usize) -> bool {
 }
 
 // The line `spoiled`, unless all was kept.
-fn put_spoiled(kept: bool, out: &mut [u8; 4096], at: usize) -> usize {
+pub fn put_spoiled(kept: bool, out: &mut [u8; 4096], at: usize) -> usize {
     if kept {
         return at;
     }

@@ -7,6 +7,7 @@ use libc::STDOUT_FILENO;
 use runtime::Run;
 
 mod asks;
+mod bill;
 mod cases;
 mod file;
 mod lent;

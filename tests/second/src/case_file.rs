@@ -1,5 +1,6 @@
 //! The file of cases: its bytes, and what is printed for it.
 
+use crate::bill::{shares, wards};
 use crate::cases::hex;
 use crate::coordinator::call;
 use crate::list::write;
@@ -14,11 +15,15 @@ pub const MOST_BYTES: usize = 65_536;
 /// What the lent places hold before each call.
 const QUEUE_FILL: u16 = 43690;
 const WRITER_FILL: u8 = 170;
+const SHARES_FILL: u32 = 2_863_311_530;
 /// "The longest list has 4,805 bytes."
 const LONGEST: usize = 4805;
 /// The numbers of workers that are asked for; where open refuses, only one of those that rounds takes.
 const WORKERS: [u32; 6] = [0, 1, 2, 3, 16, 17];
 const WORKERS_REFUSED: [u32; 3] = [0, 1, 17];
+/// The bills that are shared, and the one that is shared into a slice that is too short.
+const BILLS: [u32; 5] = [0, 1, 7, 100, u32::MAX];
+const SHORT_BILL: u32 = 100;
 
 /// One case: what open takes, then calls (kind, job).
 #[derive(Clone, Debug, PartialEq, Eq)]
@@ -133,11 +138,13 @@ pub fn cases_output(cases: &[Case]) -> String {
         writer_line(&mut text, "short", &run, written - 1);
         search_lines(&mut text, &run);
         move_lines(&mut text, &run);
+        bill_lines(&mut text, "", &run);
         let hand = hand_run(&case.list, &case.library, &TODAY);
         let hand = hand.expect("open has accepted the same");
         text.push_str(&format!("hand {}\n", totals(&hand)));
         text.push_str(&format!("hand entries{}\n", words(&hand.memory)));
         record_lines(&mut text, "hand record", &hand);
+        bill_lines(&mut text, "hand ", &hand);
         rounds_lines(&mut text, case, &WORKERS);
     }
     text
@@ -279,6 +286,36 @@ fn move_lines(text: &mut String, run: &Run) {
     }
     text.push_str(&format!("moves {count} {}\n", totals(&moved)));
     text.push_str(&format!("moves entries{}\n", words(&moved.memory)));
+}
+
+/// #114: the wards of the run, then each bill, shared into a slice of 128 places, then one of them into one place
+/// less than there are wards.
+fn bill_lines(text: &mut String, word: &str, run: &Run) {
+    let wards = wards(run);
+    text.push_str(&format!("{word}wards {}", wards.len()));
+    for ward in &wards {
+        text.push_str(&format!(" {} {}", ward.number, ward.weight));
+    }
+    text.push('\n');
+    for bill in BILLS {
+        shares_line(text, &format!("{word}shares {bill}"), run, bill, RECORDS);
+    }
+    if shares(run, SHORT_BILL, &mut [SHARES_FILL; RECORDS]).is_ok() {
+        let room = wards.len() - 1;
+        shares_line(text, &format!("{word}short shares"), run, SHORT_BILL, room);
+    }
+}
+
+/// One bill shared into a slice of `room` places.
+fn shares_line(text: &mut String, word: &str, run: &Run, bill: u32, room: usize) {
+    let mut places = vec![SHARES_FILL; room];
+    let answer = shares(run, bill, &mut places);
+    let written = answer.unwrap_or(0);
+    match answer {
+        Ok(_) => text.push_str(&format!("{word} {written}{}\n", words(&places[..written]))),
+        Err(refusal) => text.push_str(&format!("{word} refused {refusal}\n")),
+    }
+    spoiled_line(text, &places[written..], SHARES_FILL);
 }
 
 /// #111: the report for each of these numbers of workers: rounds, calls, span.

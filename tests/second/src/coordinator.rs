@@ -26,6 +26,12 @@ pub fn open_files(jobs: &[u8], library_bytes: &[u8]) -> Result<Run, u32> {
     open(jobs, &library, &TODAY)
 }
 
+/// The hand run on the two files' bytes.
+pub fn hand_run_files(jobs: &[u8], library_bytes: &[u8]) -> Result<Run, u32> {
+    let library = library_numbers(jobs, library_bytes)?;
+    hand_run(jobs, &library, &TODAY)
+}
+
 /// "two-byte calls from standard input: 0 start, 1 step, 2 end, then the job"; "another kind: 18"
 pub fn call(run: &mut Run, kind: u8, task: u32) -> Result<(), u32> {
     match kind {

@@ -6,6 +6,7 @@
 //! sheet = body, place = pc, mark = tag, instructions done = steps.
 //! A refusal is the documents' number, as `Err(number)`.
 
+pub mod bill;
 pub mod case_file;
 pub mod cases;
 pub mod coordinator;

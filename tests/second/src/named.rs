@@ -122,6 +122,7 @@ pub fn named_cases() -> Vec<Case> {
     cases.extend(sums());
     cases.extend(thousandths());
     cases.extend(rounds_moves_and_searches());
+    cases.extend(bills());
     cases.extend(refused_lists());
     cases
 }
@@ -1419,6 +1420,204 @@ pub fn writer_behind_126() -> Vec<u8> {
     root.push(fan(1, 0, 14));
     root.push(spawn(1, 1));
     list(1, &[&[], &[write_line(0)]], &[&root, &[]])
+}
+
+/// A full play: accepted calls in an order that this strategy prefers, until no job is left.
+fn played(list: &[u8], library: &[u32], strategy: Strategy, seed: u64) -> Case {
+    let mut case = case(list, library, "");
+    let mut run = open(list, library, &TODAY).expect("an accepted list with its library");
+    let mut rng = Rng::new(seed);
+    let mut last = 0;
+    while let Some((kind, task)) = sensible_call(&mut rng, strategy, &run, last) {
+        case.calls.push((kind, task));
+        call(&mut run, kind, task).expect("a sensible call");
+        last = task;
+    }
+    case
+}
+
+/// The same, but for so many calls at its end.
+fn cut(list: &[u8], library: &[u32], strategy: Strategy, less: usize) -> Case {
+    let mut case = played(list, library, strategy, 0);
+    case.calls.truncate(case.calls.len() - less);
+    case
+}
+
+/// #114
+fn bills() -> Vec<Case> {
+    let mut cases = Vec::new();
+    // Equal wards; equal ones between others, with the larger remainder now at these, now at those; one alone.
+    for lengths in [&[0, 0, 0][..], &[0, 2, 0, 2], &[3, 0, 0, 3, 1], &[4]] {
+        let bytes = wards_of_lengths(lengths);
+        cases.push(played(&bytes, &[5], Strategy::Back, 0));
+    }
+    // Exact shares of 100: no pence remain.
+    cases.push(played(&wards_of_25_and_75(), &[5], Strategy::Other, 0));
+    // Fans of job 0 beside spawns; children of one fan that differ in weight.
+    let two_rates = fan_of_two_weights();
+    cases.push(played(&two_rates, &[5], Strategy::LateEnds, 1));
+    cases.push(in_rounds(&two_rates, &[5], 4, usize::MAX));
+    // Wards that were passed over, and blocks with jobs that were never made: in several orders, and cut.
+    for bytes in [wards_passed_over(), blocks_with_gaps()] {
+        cases.push(whole(&bytes, &[5, 7]));
+        cases.push(in_rounds(&bytes, &[5, 7], 3, usize::MAX));
+        for strategy in [Strategy::Back, Strategy::Same] {
+            cases.push(played(&bytes, &[5, 7], strategy, 2));
+        }
+        // Near the end of the hand run; with job 0 alone, at its end; with a ward or some of its block, job 0 ended.
+        for (strategy, less) in [
+            (Strategy::Front, 5),
+            (Strategy::Front, 1),
+            (Strategy::Back, 9),
+        ] {
+            cases.push(cut(&bytes, &[5, 7], strategy, less));
+        }
+    }
+    // A spawn or a fan of job 0 that faults behind wards; what stands behind it isn't done.
+    for last in [spawn(1, 1), fan(1, 2, 3)] {
+        let bytes = fault_behind_wards(&[spawn(1, 0), fan(2, 0, 2), last, spawn(1, 0)]);
+        cases.push(played(&bytes, &[5, 7], Strategy::Back, 3));
+        cases.push(cut(&bytes, &[5, 7], Strategy::LateEnds, 1));
+    }
+    // No ward: the first spawn or fan faults, all are passed over, or there is none; then with job 0 left.
+    for instructions in [
+        &[spawn(1, 1), spawn(1, 0)][..],
+        &[fan(1, 2, 3), spawn(1, 0)],
+        &[Instruction::Skip { a: 0, b: 2 }, spawn(1, 0), fan(1, 0, 2)],
+        &[constant(1, 9)],
+    ] {
+        let bytes = fault_behind_wards(instructions);
+        cases.push(whole(&bytes, &[5, 7]));
+        cases.push(cut(&bytes, &[5, 7], Strategy::Front, 1));
+    }
+    cases
+}
+
+/// #114: job 0 makes a job for each of these, by spawns, with as many instructions of weight 1.
+pub fn wards_of_lengths(lengths: &[usize]) -> Vec<u8> {
+    let mut bodies: Vec<Vec<Instruction>> = vec![Vec::new()];
+    for (i, length) in lengths.iter().enumerate() {
+        bodies[0].push(spawn(i as u8 + 1, 0));
+        bodies.push(vec![constant(1, 9); *length]);
+    }
+    encode(&TaskList {
+        locations: 1,
+        footprints: vec![Vec::new()],
+        bodies,
+    })
+}
+
+/// #114: two wards, the first of weight 25, the second, with four children, of weight 75.
+pub fn wards_of_25_and_75() -> Vec<u8> {
+    let mut second = vec![spawn(3, 0); 4];
+    second.extend([constant(1, 9); 8]);
+    list(
+        1,
+        &[&[]],
+        &[
+            &[spawn(1, 0), spawn(2, 0)],
+            &[constant(1, 9); 18],
+            &second,
+            &[],
+        ],
+    )
+}
+
+/// #114: a fan of six, the first four of which do three instructions more, then a spawn, and a fan of two that
+/// have a child each.
+pub fn fan_of_two_weights() -> Vec<u8> {
+    list(
+        1,
+        &[&[]],
+        &[
+            &[fan(1, 0, 6), spawn(3, 0), fan(2, 0, 2)],
+            &[
+                constant(1, 4),
+                Instruction::Less { a: 2, b: 0, c: 1 },
+                Instruction::Skip { a: 2, b: 3 },
+                constant(3, 9),
+                constant(3, 9),
+                constant(3, 9),
+            ],
+            &[spawn(3, 0)],
+            &[constant(3, 9)],
+        ],
+    )
+}
+
+/// #114: job 0 passes over a spawn, a fan and a spawn, and another spawn at its end. A ward reads entry 1, or it
+/// writes it and has two children that read it, and stores to it where its R0 isn't 0.
+pub fn wards_passed_over() -> Vec<u8> {
+    let skip = |a, b| Instruction::Skip { a, b };
+    list(
+        2,
+        &[&[write_line(1)], &[read_line(1)]],
+        &[
+            &[
+                constant(1, 1),
+                skip(0, 1),
+                spawn(1, 0),
+                skip(1, 1),
+                spawn(1, 0),
+                spawn(2, 1),
+                skip(0, 2),
+                fan(1, 0, 3),
+                spawn(2, 1),
+                fan(1, 0, 2),
+                skip(0, 1),
+                spawn(2, 1),
+            ],
+            &[fan(2, 1, 2), skip(0, 1), Instruction::Store { a: 1, b: 0 }],
+            &[Instruction::Load { a: 2, b: 1 }],
+        ],
+    )
+}
+
+/// #114: wards whose blocks have jobs that are never made: where R1 is 0, a ward passes over a spawn of a sheet
+/// that counts 3; where it is 9, the spawn behind it faults.
+pub fn blocks_with_gaps() -> Vec<u8> {
+    list(
+        2,
+        &[&[sum_line(0)], &[Line { kind: 5, value: 1 }]],
+        &[
+            &[
+                spawn(1, 0),
+                constant(1, 9),
+                spawn(1, 0),
+                Instruction::Sub { a: 1, b: 1, c: 1 },
+                fan(1, 0, 2),
+                spawn(3, 0),
+            ],
+            &[
+                Instruction::Skip { a: 1, b: 1 },
+                spawn(2, 0),
+                spawn(3, 1),
+                spawn(3, 0),
+            ],
+            &[fan(3, 0, 2)],
+            &[sum(1, 2)],
+        ],
+    )
+}
+
+/// #114: C = 2. Job 0 does this with R3 = 9. Footprint 1 names the entry in R3, which is none; footprint 2 the
+/// entry of the child's number.
+pub fn fault_behind_wards(instructions: &[Instruction]) -> Vec<u8> {
+    let mut root = vec![constant(3, 9)];
+    root.extend(instructions);
+    list(
+        2,
+        &[
+            &[read_line(0)],
+            &[Line { kind: 2, value: 3 }],
+            &[READ_BY_CHILD],
+        ],
+        &[
+            &root,
+            &[Instruction::Load { a: 1, b: 0 }, spawn(2, 0)],
+            &[constant(1, 9)],
+        ],
+    )
 }
 
 fn refused_lists() -> Vec<Case> {

@@ -93,6 +93,66 @@ fn the_stored_cases_say_something_of_searches_moves_and_rounds() {
     }
 }
 
+/// #114
+#[test]
+fn the_stored_cases_say_something_of_bills() {
+    let text = cases_output(&named_cases());
+    for word in ["", "hand "] {
+        let wards = rows(&text, &format!("{word}wards "));
+        let counts = distinct(wards.iter().map(|row| row[0]).collect());
+        for count in [0, 1, 2, 3, 4, 5, 127] {
+            assert!(counts.contains(&count), "{word}{count}");
+        }
+        // Wards behind a block that was passed over, and blocks of several numbers.
+        assert!(wards.iter().filter(|row| row[0] > 1 && row[1] > 1).count() >= 5);
+        assert!(
+            wards
+                .iter()
+                .filter(|row| row[0] > 1 && row[3] > row[1] + 1)
+                .count()
+                >= 10
+        );
+        // Each bill has its line; equal wards of which the lower number has a penny more.
+        for bill in [0, 1, 7, 100, u32::MAX] {
+            let lines = format!("\n{word}shares {bill} ");
+            assert_eq!(text.matches(&lines).count(), wards.len(), "{word}{bill}");
+        }
+        let shared = rows(&text, &format!("{word}shares 100 "));
+        let short = format!("\n{word}short shares refused 17\n");
+        assert_eq!(text.matches(&short).count(), shared.len());
+        assert!(shared.len() > 40);
+        assert!(text.contains(&format!("\n{word}shares 100 3 34 33 33\n")));
+        assert!(text.contains(&format!("\n{word}shares 7 4 2 2 1 2\n")));
+        assert!(text.contains(&format!("\n{word}shares 100 2 25 75\n")));
+        assert!(text.contains(&format!("\n{word}wards 0\n{word}shares 0 refused 29\n")));
+    }
+    assert!(text.contains("\nwards 0\nshares 0 refused 28\n"));
+    assert!(!text.contains("hand shares 0 refused 28\n"));
+    // Several of the runs with a job left have wards that weigh what they do in the end.
+    let blocks: Vec<&str> = text.split("\ncase ").collect();
+    let line = |block: &str, word: &str| -> Option<String> {
+        let line = block.lines().find_map(|line| line.strip_prefix(word));
+        line.map(str::to_string)
+    };
+    let left = blocks
+        .iter()
+        .filter(|block| block.contains("\nshares 7 refused 28\n"));
+    let same = left.filter(|block| {
+        let wards = line(block, "wards ");
+        wards.as_deref() != Some("0") && wards == line(block, "hand wards ")
+    });
+    assert!(same.count() >= 5);
+    // Where no job is left, wards and shares are the hand run's.
+    for block in blocks
+        .iter()
+        .filter(|block| block.contains("\nshort shares "))
+    {
+        for word in ["wards ", "shares 7 ", "shares 100 ", "shares 4294967295 "] {
+            assert_eq!(line(block, word), line(block, &format!("hand {word}")));
+        }
+    }
+}
+
 /// The case's list is accepted and has such an instruction.
 fn has(case: &Case, such: fn(&Instruction) -> bool) -> bool {
     let Ok(list) = decode(&case.list) else {
@@ -127,7 +187,7 @@ fn the_stored_cases_reach_every_answer() {
     let cases = stored_cases(STORED_SEED, STORED_COUNT);
     assert!(encode_cases(&cases).len() <= 60_000);
     let text = cases_output(&cases);
-    assert!(text.len() <= 700_000);
+    assert!(text.len() <= 850_000);
     assert!(!text.contains("spoiled"));
     assert_eq!(
         distinct(numbers(&text, "open ")),
@@ -200,11 +260,24 @@ fn what_is_printed_for_p() {
         format!("move record 1 2 1 0 0 0 0 0 0 0 5 {}", modes("2")),
         "moves 10 13 50 0".to_string(),
         "moves entries 9 9".to_string(),
+        "wards 2 1 0 2 0".to_string(),
+        "shares 0 refused 28".to_string(),
+        "shares 1 refused 28".to_string(),
+        "shares 7 refused 28".to_string(),
+        "shares 100 refused 28".to_string(),
+        "shares 4294967295 refused 28".to_string(),
         "hand 13 50 0".to_string(),
         "hand entries 9 9".to_string(),
         format!("hand record 0 3 0 2 0 0 0 0 2 0 23 {}", modes("22")),
         format!("hand record 1 3 1 2 0 9 0 0 2 0 12 {}", modes("2")),
         format!("hand record 2 3 2 3 0 9 1 0 3 0 15 {}", modes("12")),
+        "hand wards 2 1 12 2 15".to_string(),
+        "hand shares 0 2 0 0".to_string(),
+        "hand shares 1 2 0 1".to_string(),
+        "hand shares 7 2 3 4".to_string(),
+        "hand shares 100 2 44 56".to_string(),
+        "hand shares 4294967295 2 1908874353 2386092942".to_string(),
+        "hand short shares refused 17".to_string(),
         "rounds 0 refused 24".to_string(),
         "rounds 1 13 13 11".to_string(),
         "rounds 2 11 13 11".to_string(),
@@ -219,6 +292,11 @@ fn what_is_printed_for_p() {
         "case 0\nopen 8\nrounds 0 refused 24\nrounds 1 refused 8\nrounds 17 refused 24\n"
     );
     assert!(cases_output(&cases[..1]).contains("\ncalls\n"));
+    // After the hand run's calls the bill is shared as the hand run's.
+    let text = cases_output(&cases[13..14]);
+    let bill = "wards 2 1 12 2 15\nshares 0 2 0 0\nshares 1 2 0 1\nshares 7 2 3 4\n";
+    assert!(text.contains(&format!("\nmoves entries 9 9\n{bill}")));
+    assert!(text.contains("\nshort shares refused 17\nhand 13 50 0\n"));
 }
 
 /// #101: what is printed for the empty file is what is printed for the marked records.
@@ -230,7 +308,9 @@ fn what_is_printed_for_the_empty_file() {
         .collect();
     let text = cases_output(&cases);
     assert!(text.contains("write 8 4a480100014a4200\nshort refused 17\nsearch 0 0 1 0 1\n"));
-    assert!(text.contains("moves 2 2 7 0\nmoves entries 5\nhand 2 7 0\n"));
+    assert!(text.contains("moves 2 2 7 0\nmoves entries 5\nwards 0\nshares 0 refused 28\n"));
+    assert!(text.contains("shares 4294967295 refused 28\nhand 2 7 0\nhand entries 5\n"));
+    assert!(text.contains("\nwards 0\nshares 0 refused 29\n"));
     assert_eq!(distinct(numbers(&text, "open ")), [0, 8]);
     let mut marked = cases;
     for case in &mut marked {

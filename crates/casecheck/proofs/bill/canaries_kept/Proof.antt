@@ -1,0 +1,52 @@
+-- Each of the 128 places in turn. Assumes nothing.
+use Prim.Native.Nat.{_-_}
+use mathlib.Core.Path.{_≡_}
+use lib.ListN.{length}
+use borrow.Author.Needs.{needs}
+use Rattle.casecheck.proofs.bill.canaries_kept.Statement.{statement}
+use Rattle.casecheck.proofs.bill.canaries_kept.Tie as tie
+
+abbrev Inv-loop : tie.InvT-loop
+Inv-loop from places i₀ i = length places ≡ 128
+
+abbrev μ-loop : tie.MeasureT-loop
+μ-loop from places i₀ i = 128 - i
+
+loop-holds : tie.Need-loop-holds Inv-loop μ-loop
+loop-holds c = search needs
+
+mul-if1 : tie.Need-mul-if1 Inv-loop μ-loop
+mul-if1 c = search needs
+
+array-read-if1 : tie.Need-array-read-if1 Inv-loop μ-loop
+array-read-if1 c = search needs
+
+returns : tie.Need-returns Inv-loop μ-loop
+returns c = search needs
+
+add-i : tie.Need-add-i Inv-loop μ-loop
+add-i c = search needs
+
+loop-less : tie.Need-loop-less Inv-loop μ-loop
+loop-less c = search needs
+
+loop-again : tie.Need-loop-again Inv-loop μ-loop
+loop-again c = search needs
+
+returns-2 : tie.Need-returns-2 Inv-loop μ-loop
+returns-2 c = search needs
+
+pub canaries-kept-spec : {M : Type 1} → statement M
+canaries-kept-spec =
+    tie.close
+    (tie.spec
+    Inv-loop
+    μ-loop
+    loop-holds
+    mul-if1
+    array-read-if1
+    returns
+    add-i
+    loop-less
+    loop-again
+    returns-2)

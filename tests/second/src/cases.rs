@@ -1,12 +1,13 @@
 //! Random cases, the same for the same seed: job lists, damaged lists, libraries, orders of calls.
 
-use crate::coordinator::{call, open_files};
+use crate::bill::wards;
+use crate::coordinator::{call, hand_run_files, open_files};
 use crate::list::{
     block, check, decode, encode, encode_instruction, task_count, task_counts, Instruction, Line,
     TaskList, COUNT_CAP,
 };
 use crate::rng::Rng;
-use crate::rounds::{next_call_of, would_be_accepted};
+use crate::rounds::{make, next_call_of, would_be_accepted};
 use crate::run::{at_its_end, line_mode, product, quotient, Run};
 use crate::run::{NONE, READ, SUM, TODAY, WEIGHTS, WRITE};
 
@@ -1446,6 +1447,224 @@ fn parallel_list(rng: &mut Rng) -> TaskList {
             return list;
         }
     }
+}
+
+/// A case for the bill (#114): jobs.bin, library.bin, the bill as it is typed, and files of calls with their names.
+pub struct BillCase {
+    pub jobs: Vec<u8>,
+    pub library: Vec<u8>,
+    pub bill: String,
+    pub plays: Vec<(&'static str, Vec<u8>)>,
+}
+
+/// A case for the bill: mostly an accepted list with several wards, some lists of any shape, empty or damaged, some
+/// libraries that don't fit. The calls: full plays, without and with junk, and often a play cut short or none.
+pub fn bill_case(rng: &mut Rng) -> BillCase {
+    let jobs = match rng.below(20) {
+        0..=8 => encode(&ward_list(rng)),
+        9..=14 => encode(&parallel_list(rng)),
+        15..=18 => accepted_file(rng),
+        _ => list_case(rng),
+    };
+    let locations = decode(&jobs).map_or(1, |list| list.locations);
+    let mut library = library_bytes(&random_library(rng, locations));
+    if rng.percent(3) {
+        spoil_library(rng, &mut library);
+    }
+    let bill = random_bill(rng, hand_run_files(&jobs, &library).ok().as_ref());
+    let zeros = if rng.percent(5) {
+        rng.between(1, 12)
+    } else {
+        0
+    };
+    let mut case = BillCase {
+        bill: format!("{}{bill}", "0".repeat(zeros)),
+        plays: Vec::new(),
+        jobs,
+        library,
+    };
+    match open_files(&case.jobs, &case.library) {
+        Ok(fresh) => {
+            case.plays.push(("full", full_play(rng, &fresh)));
+            case.plays.push(("junk", junk_play(rng, &fresh)));
+            if rng.percent(60) {
+                case.plays.push(("cut", cut_play(rng, &fresh)));
+            }
+        }
+        Err(_) => {
+            let length = rng.below(10);
+            let any = (0..length).map(|_| rng.byte()).collect();
+            case.plays.push(("junk", any));
+        }
+    }
+    if rng.percent(10) {
+        case.plays.push(("empty", Vec::new()));
+    }
+    case
+}
+
+/// A bill: one of the limits and a few others, any number, a small one, or about a multiple of the wards' weight,
+/// where the exact shares are whole numbers.
+pub fn random_bill(rng: &mut Rng, run: Option<&Run>) -> u32 {
+    let weight: u64 = match run {
+        Some(run) => wards(run).iter().map(|ward| ward.weight).sum(),
+        None => 0,
+    };
+    match rng.below(10) {
+        0..=3 => rng.pick(&[0, 1, 7, 100, u32::MAX]),
+        4 | 5 => rng.next_u64() as u32,
+        6 | 7 => rng.below(1000) as u32,
+        _ => {
+            let most = if rng.percent(50) {
+                10
+            } else {
+                u32::MAX as usize / weight.max(1) as usize
+            };
+            let multiple = weight * rng.below(most) as u64 + rng.below(3) as u64;
+            u32::try_from(multiple.saturating_sub(1)).unwrap_or(u32::MAX)
+        }
+    }
+}
+
+/// A list whose job 0 makes wards by spawns and fans. Some are passed over, and a few fault; so are jobs of the
+/// wards' blocks.
+pub fn ward_list(rng: &mut Rng) -> TaskList {
+    let locations = rng.between(1, 6);
+    let mut footprints = vec![Vec::new()];
+    for mode in [READ, WRITE, SUM] {
+        footprints.push(vec![line_of(mode, false, rng.below(locations) as u8)]);
+    }
+    // R3 is 200 in each job.
+    footprints.push(vec![line_of(READ, true, 3)]);
+    let mut list = TaskList {
+        locations,
+        footprints,
+        bodies: vec![Vec::new(); rng.between(2, 6)],
+    };
+    for s in (0..list.bodies.len()).rev() {
+        list.bodies[s] = ward_body(rng, &list, s);
+    }
+    list
+}
+
+/// Sheet s of such a list; the sheets above s are already made.
+fn ward_body(rng: &mut Rng, list: &TaskList, s: usize) -> Vec<Instruction> {
+    let counts = task_counts(list);
+    let (least, most, mut room) = match s {
+        0 => (2, 9, 127),
+        _ => (0, 5, rng.pick(&[0, 4, 12])),
+    };
+    let mut body = Vec::new();
+    if s == 0 {
+        body.push(Instruction::Const { a: 1, value: 1 });
+        body.push(Instruction::Const { a: 3, value: 200 });
+    }
+    for _ in 0..rng.between(least, most) {
+        // In job 0 the first is passed over, the second isn't; of the children of a fan only the first has R0 = 0.
+        if rng.percent(30) {
+            let a = rng.pick(&[0, 0, 1]);
+            body.push(Instruction::Skip { a, b: 1 });
+        }
+        let target = s + 1 + rng.below(list.bodies.len() - s);
+        let footprint = match rng.below(100) {
+            0..=5 => 4,
+            6..=50 => 0,
+            _ => rng.between(1, 3) as u8,
+        };
+        if target < list.bodies.len() && counts[target] <= room {
+            let most_children = (room / counts[target]).min(6) as usize;
+            let instruction = if rng.percent(50) {
+                Instruction::Spawn {
+                    body: target as u8,
+                    footprint,
+                }
+            } else {
+                Instruction::Fan {
+                    body: target as u8,
+                    footprint,
+                    children: rng.between(1, most_children) as u8,
+                }
+            };
+            room -= block(&instruction, &counts);
+            body.push(instruction);
+        } else {
+            body.push(match rng.below(8) {
+                0 => Instruction::Load { a: 2, b: 0 },
+                1 => Instruction::Sum { a: 0, b: 1 },
+                _ => Instruction::Less { a: 2, b: 0, c: 1 },
+            });
+        }
+    }
+    body
+}
+
+/// The bytes of calls that leave no job: all accepted, in a random order.
+pub fn full_play(rng: &mut Rng, fresh: &Run) -> Vec<u8> {
+    let mut run = fresh.clone();
+    let strategy = rng.pick(&STRATEGIES);
+    let mut bytes = Vec::new();
+    let mut last = 0;
+    while let Some((kind, task)) = sensible_call(rng, strategy, &run, last) {
+        make(&mut run, (kind, task));
+        bytes.extend([kind, task as u8]);
+        last = task;
+    }
+    bytes
+}
+
+/// The same with junk: other kinds, refused calls between the others and behind them, mostly half a call at the end.
+pub fn junk_play(rng: &mut Rng, fresh: &Run) -> Vec<u8> {
+    let mut run = fresh.clone();
+    let strategy = rng.pick(&STRATEGIES);
+    let junk_percent = rng.pick(&[5, 20, 50]);
+    let mut bytes = Vec::new();
+    let mut last = 0;
+    while !run.order.is_empty() {
+        if rng.percent(junk_percent) {
+            // Another kind, behind which what would be the next call is none.
+            let task = rng.pick(&run.order) as u8;
+            bytes.extend([byte_from(rng, 3), rng.pick(&[task, 0, 1, 2, 128, 255])]);
+        }
+        let (kind, task) = next_call(rng, strategy, &run, last, junk_percent);
+        if task > 255 {
+            continue;
+        }
+        bytes.extend([kind, task as u8]);
+        if call(&mut run, kind, task).is_ok() {
+            last = task;
+        }
+    }
+    for _ in 0..rng.below(4) {
+        bytes.extend([rng.below(4) as u8, rng.byte()]);
+    }
+    if rng.percent(80) {
+        bytes.push(rng.below(4) as u8);
+    }
+    bytes
+}
+
+/// A play cut short, so that a job is left: anywhere, before its last call or within that.
+pub fn cut_play(rng: &mut Rng, fresh: &Run) -> Vec<u8> {
+    let mut bytes = full_play(rng, fresh);
+    let less = match rng.below(4) {
+        0 => 1,
+        1 => 2,
+        _ => 1 + rng.below(bytes.len()),
+    };
+    bytes.truncate(bytes.len() - less);
+    bytes
+}
+
+/// A full play behind more than 100,000 bytes of calls that are none or refused, and half a call at its end.
+pub fn long_play(rng: &mut Rng, fresh: &Run) -> Vec<u8> {
+    let mut bytes = Vec::new();
+    for _ in 0..25_000 {
+        bytes.extend([byte_from(rng, 3), rng.byte()]);
+        bytes.extend([rng.below(3) as u8, rng.between(128, 255) as u8]);
+    }
+    bytes.extend(full_play(rng, fresh));
+    bytes.push(0);
+    bytes
 }
 
 /// A library.bin of a length that doesn't fit.

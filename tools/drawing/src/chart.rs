@@ -2,6 +2,7 @@
 
 use crate::report::{Report, MOST_WORKERS};
 use crate::svg::{Anchor, Svg};
+use crate::words::{grouped, shortened};
 
 /// The plot's edges, the distance from one number of workers to the next, and the whole picture's width.
 const LEFT: i64 = 76;
@@ -14,7 +15,6 @@ const WIDTH: i64 = RIGHT + 104;
 const MOST_STEPS: u64 = 7;
 /// The curve's points from one number of workers to the next.
 const PIECES: i64 = 8;
-const MOST_NAME: usize = 40;
 
 const DARK: &str = "fill=\"#222222\"";
 const GREY: &str = "fill=\"#666666\"";
@@ -236,26 +236,6 @@ fn draw_legend(svg: &mut Svg, report: &Report, y: i64) -> i64 {
     y + 62
 }
 
-/// A name that fits, in characters that can be shown.
-fn shortened(name: &str) -> String {
-    let shown: Vec<char> = name
-        .chars()
-        .map(|c| if c.is_control() { '?' } else { c })
-        .collect();
-    if shown.len() <= MOST_NAME {
-        return shown.into_iter().collect();
-    }
-    shown[..MOST_NAME - 1].iter().chain(&['\u{2026}']).collect()
-}
-
-/// A number with a comma ahead of each three digits.
-fn grouped(number: u64) -> String {
-    match number {
-        0..=999 => number.to_string(),
-        _ => format!("{},{:03}", grouped(number / 1000), number % 1000),
-    }
-}
-
 #[cfg(test)]
 mod tests {
     use super::*;
@@ -437,11 +417,5 @@ mod tests {
         assert_eq!(apart(100, 100, 15), (93, 108));
         assert_eq!(apart(104, 100, 15), (110, 95));
         assert_eq!(apart(115, 100, 15), (115, 100));
-    }
-
-    #[test]
-    fn commas() {
-        let said: Vec<String> = [0, 12, 999, 1000, 4352, 1034067].map(grouped).to_vec();
-        assert_eq!(said, ["0", "12", "999", "1,000", "4,352", "1,034,067"]);
     }
 }

@@ -1,6 +1,6 @@
 //! What the program rounds prints, taken from its lines.
 
-use std::fmt;
+use crate::lines::{named, whole, Failure, Lines};
 
 /// The lines are for 1 to 16 workers.
 pub const MOST_WORKERS: usize = 16;
@@ -22,46 +22,9 @@ impl Report {
     }
 }
 
-/// Why there is no report.
-#[derive(Debug, PartialEq, Eq)]
-pub enum Failure {
-    /// The program refused the list or the library.
-    Refused(u64),
-    /// The lines end, and this should follow.
-    CutOff(String),
-    /// This line, counted from 1, should be another.
-    Line {
-        number: usize,
-        found: String,
-        wanted: String,
-    },
-}
-
-impl fmt::Display for Failure {
-    fn fmt(&self, f: &mut fmt::Formatter) -> fmt::Result {
-        match self {
-            Failure::Refused(refusal) => write!(f, "refused {refusal}"),
-            Failure::CutOff(wanted) => write!(f, "cut off: {wanted} should follow"),
-            Failure::Line {
-                number,
-                found,
-                wanted,
-            } => write!(f, "line {number} is `{found}`, and should be {wanted}"),
-        }
-    }
-}
-
 /// Takes the lines of one report, and nothing else.
 pub fn parse(text: &str) -> Result<Report, Failure> {
-    let mut lines = Lines { text, number: 0 };
-    if let Ok(refusal) = lines
-        .clone()
-        .take("`refused N`", |line| named("refused", line))
-    {
-        lines.take_any();
-        lines.end()?;
-        return Err(Failure::Refused(refusal));
-    }
+    let mut lines = Lines::of(text)?;
     let calls = lines.take("`calls C`, C from 1 on", |line| {
         named("calls", line).filter(|calls| *calls > 0)
     })?;
@@ -98,69 +61,6 @@ pub fn parse(text: &str) -> Result<Report, Failure> {
     lines.take(&format!("`{last}`"), |line| (line == last).then_some(()))?;
     lines.end()?;
     Ok(report)
-}
-
-/// The lines that are left, and how many were taken.
-#[derive(Clone)]
-struct Lines<'a> {
-    text: &'a str,
-    number: usize,
-}
-
-impl Lines<'_> {
-    /// The next line, if it is whole.
-    fn take_any(&mut self) -> Option<&str> {
-        let (line, rest) = self.text.split_once('\n')?;
-        (self.text, self.number) = (rest, self.number + 1);
-        Some(line)
-    }
-
-    /// What the next line says; a failure where it isn't what is wanted.
-    fn take<T>(
-        &mut self,
-        wanted: &str,
-        says: impl FnOnce(&str) -> Option<T>,
-    ) -> Result<T, Failure> {
-        let number = self.number + 1;
-        match self.take_any() {
-            None => Err(Failure::CutOff(wanted.to_string())),
-            Some(line) => says(line).ok_or_else(|| Failure::Line {
-                number,
-                found: line.chars().take(40).collect(),
-                wanted: wanted.to_string(),
-            }),
-        }
-    }
-
-    /// No line is left.
-    fn end(self) -> Result<(), Failure> {
-        if self.text.is_empty() {
-            return Ok(());
-        }
-        Err(Failure::Line {
-            number: self.number + 1,
-            found: self
-                .text
-                .lines()
-                .next()
-                .unwrap_or("")
-                .chars()
-                .take(40)
-                .collect(),
-            wanted: "the end".to_string(),
-        })
-    }
-}
-
-/// The number behind a name.
-fn named(name: &str, line: &str) -> Option<u64> {
-    whole(line.strip_prefix(name)?.strip_prefix(' ')?)
-}
-
-/// A whole number as the program writes it: digits, no zero ahead of others, and below 2^32.
-fn whole(word: &str) -> Option<u64> {
-    let number: u32 = word.parse().ok()?;
-    (number.to_string() == word).then_some(number as u64)
 }
 
 #[cfg(test)]

@@ -1,7 +1,8 @@
 // The search of the tasks ahead: what they do to the accesses of a call, and at how many it looked.
+#![tactic(auto)]
 
 // What the tasks ahead do to the accesses of a call.
-#[derive(Drop)]
+#[derive(Clone, Copy)]
 pub enum Hold {
     // They all may stand ahead.
     Free,
@@ -12,14 +13,14 @@ pub enum Hold {
 }
 
 // What a search of the tasks ahead found, and at how many tasks it looked: the place where it stopped, counted from 1.
-#[derive(Drop)]
+#[derive(Clone, Copy)]
 pub struct Searched {
     pub hold: Hold,
     pub looked: usize,
 }
 
 // The accesses of a call: the first `count` locations, and the mode that each is asked for in.
-#[derive(Drop)]
+#[derive(Clone, Copy)]
 pub struct Wanted {
     pub count: usize,
     pub locations: [u8; 64],

@@ -1,8 +1,9 @@
 // Leaf operations on the runtime's arrays, each proved against one equation over lists: places in the order, rows of the
 // table of modes.
+#![tactic(auto)]
 
 // The place of a task among those in the order.
-#[derive(Drop)]
+#[derive(Clone, Copy)]
 pub enum Place {
     At(usize),
     Absent,

@@ -1,4 +1,6 @@
 // What the benchmark calls: a run is opened under today's weights, or calls are made on it, and one number of it is given.
+#![tactic(auto)]
+
 ghost use Rattle.std.specs.Prelude.{◌≡◌};
 ghost use Rattle.semantics.specs.Run.{fixed_weights};
 ghost use Rattle.semantics.specs.Operations.{open_asked, sequential_asked};

@@ -1,5 +1,7 @@
 // The program bill: the server's bill, shared among the wards of the publication of jobs.bin and library.bin (request 114). It only
 // moves bytes; what it prints comes from the crate `host_bill`.
+#![tactic(auto)]
+
 use host_bill::{Pence, ROOM};
 use host_files::{FileRead, LIBRARY_ROOM, LIST_ROOM, read_file, size_of};
 use lent::PIECE;

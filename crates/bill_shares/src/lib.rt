@@ -1,5 +1,7 @@
 // A bill shared in proportion to weights, rounded down; remaining pence go one each to the largest remainders, the lower place
 // first among equals. Numbers alone: it knows of no run.
+#![tactic(auto)]
+
 ghost use Rattle.std.specs.Prelude.{◌+◌, ◌-◌, ◌*◌, ◌/◌, ◌%◌, ◌^◌, ◌≤◌, ◌<◌, min, ◌≡◌, ◌++◌, map, cond, ◌&&◌, ◌||◌, ltb, eqb, length, take, get_or, replicate};
 ghost use Rattle.bill_shares.specs.Shares.{whole, rank_of, listed, shares};
 

@@ -1,5 +1,7 @@
 // The server's bill, shared among the wards of a run that is done: request 114. A layer above the runtime, knowing only its
 // promises: it reads a run by what may be asked of one (crate `inspect`). The numbers alone stand in the crate `bill_shares`.
+#![tactic(auto)]
+
 ghost use Rattle.std.specs.Prelude.{◌≡◌, ◌%◌, ◌^◌, ◌<◌, ◌≤◌, length, take, drop};
 ghost use Rattle.std.proofs.lemmas.List.Edits.{sets};
 ghost use Rattle.tasklist.specs.TaskList.{total};
@@ -19,7 +21,7 @@ const RECORDS: usize = 128;
 const NEVER_MADE: u8 = 0;
 
 // What sharing a bill answers.
-#[derive(Drop)]
+#[derive(Clone, Copy)]
 pub enum Billed {
     // the number of wards: so many places were written
     Wards(usize),
@@ -32,7 +34,7 @@ pub enum Billed {
 }
 
 // The wards of a run, by rising number: so many numbers and weights at the front, zeros behind.
-#[derive(Drop)]
+#[derive(Clone, Copy)]
 pub struct Wards {
     pub count: usize,
     pub numbers: [u8; PLACES],
@@ -40,7 +42,7 @@ pub struct Wards {
 }
 
 // A walk over the records: the wards found so far, and the first number behind the last one's block.
-#[derive(Drop)]
+#[derive(Clone, Copy)]
 pub struct Walk {
     pub found: Wards,
     pub until: usize,

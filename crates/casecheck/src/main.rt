@@ -1,6 +1,8 @@
 // Replays a file of cases against the runtime and prints what comes of each (docs/cases.md). A file that can't be read,
 // that ends within a case, that has a call of another kind or more than 65,536 bytes: `bad file`, behind the cases
 // before.
+#![tactic(auto)]
+
 ghost use Rattle.std.specs.Prelude.{◌+◌, ◌≤◌, length};
 
 use libc::STDOUT_FILENO;
@@ -18,7 +20,7 @@ mod searches;
 mod text;
 
 // Where a part of a case ends.
-#[derive(Drop)]
+#[derive(Clone, Copy)]
 pub enum PartEnd {
     // The file ends before.
     Bad,
@@ -26,7 +28,7 @@ pub enum PartEnd {
 }
 
 // Where the parts of a case end; the last one's end is the case's.
-#[derive(Drop)]
+#[derive(Clone, Copy)]
 pub enum CaseEnds {
     // The file ends before.
     Bad,
@@ -38,14 +40,14 @@ pub enum CaseEnds {
 }
 
 // A run behind its calls, and how much of the output's buffer is filled.
-#[derive(Drop)]
+#[derive(Clone, Copy)]
 pub struct Replayed {
     pub run: Run,
     pub at: usize,
 }
 
 // How many moves were made, and the run behind them.
-#[derive(Drop)]
+#[derive(Clone, Copy)]
 pub struct Played {
     pub made: u64,
     pub run: Run,

@@ -1,9 +1,11 @@
 // What a start and an end change, by the order, the modes, the task's own record and the weights, which are lent.
+#![tactic(auto)]
+
 use semantics::{Answer, Record};
 
 // What a call changes: the task's record, how many tasks are left, what is counted, and the tasks made. The memory, the modes
 // and the order are changed where they stand.
-#[derive(Drop)]
+#[derive(Clone, Copy)]
 pub struct Change {
     pub answer: Answer,
     pub own: Record,

@@ -1,5 +1,7 @@
 // The coordinator: opens a run of jobs.bin and library.bin, makes the calls of standard input and prints a line for each.
 // It only moves bytes; what it prints comes from the crates `wording` and `transcript`.
+#![tactic(auto)]
+
 ghost use Rattle.std.specs.Prelude.{◌+◌, ◌*◌, ◌/◌, ◌≤◌, ◌≡◌, length};
 ghost use Rattle.transcript.specs.Promises.{FedAs};
 ghost use Rattle.runtime.specs.Asked.{open_number};
@@ -13,7 +15,7 @@ use transcript::Fed;
 use wording::Pending;
 
 // A turn of the loop: the run and the pending byte after a piece of the input, and whether there was one.
-#[derive(Drop)]
+#[derive(Clone, Copy)]
 struct Turn {
     run: Run,
     pending: Pending,

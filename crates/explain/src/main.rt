@@ -1,6 +1,8 @@
 // Prints job lists in words, in the text form that the assembler reads back (docs/text-form.md). A refused list is told
 // with its refusal and byte. What it finds in a list stands in `finding`; below stands
 // the list layer alone.
+#![tactic(auto)]
+
 use tasklist::Checked;
 
 mod list;

@@ -1,9 +1,10 @@
 // What is found in a list for its reader: the task of a number, and the byte at which a list is refused.
+#![tactic(auto)]
 
 // A task (document 01: job) that a list can make: its number, body (sheet) and footprint, and the task and place that
 // make it; `child` is its number among the `children` of a fan, which are 0 for a spawn; `depth` is how many tasks stand
 // above it. The first task is made by none.
-#[derive(Drop)]
+#[derive(Clone, Copy)]
 pub struct Job {
     pub number: usize,
     pub body: usize,

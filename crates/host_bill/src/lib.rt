@@ -1,5 +1,6 @@
 // What the program bill prints, on byte slices: the shares of request 114, in lines. Stands above `bill_wards`, which shares the
 // bill, and `wording`, which writes words and numbers.
+#![tactic(auto)]
 
 // How many places a lent slice needs: no bill's lines are longer, 50 places for each of 128 lines and 52 for the last.
 pub const ROOM: usize = 6452;
@@ -8,7 +9,7 @@ pub const ROOM: usize = 6452;
 const MOST: u64 = u32::MAX as u64;
 
 // What an argument says.
-#[derive(Drop)]
+#[derive(Clone, Copy)]
 pub enum Pence {
     // so many pence
     Number(u32),

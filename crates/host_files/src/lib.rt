@@ -1,4 +1,6 @@
 // The files that the programs for a host read: jobs.bin and library.bin, each from its start up to its end or the buffer's.
+#![tactic(auto)]
+
 ghost use Rattle.std.specs.Prelude.{◌≡◌};
 ghost use Rattle.host_files.specs.Files.{size_of, Within};
 
@@ -8,7 +10,7 @@ pub const LIST_ROOM: usize = 4806;
 pub const LIBRARY_ROOM: usize = 257;
 
 // What came of reading a file.
-#[derive(Drop)]
+#[derive(Clone, Copy)]
 pub enum FileRead {
     // It is missing, or an error came while it was read.
     Unreadable,

@@ -1,5 +1,7 @@
 // What is asked of a run: how many tasks are left, a task's record, how many numbers a body's block has, a location's queue, a
 // task's search, the accepted list's bytes.
+#![tactic(auto)]
+
 ghost use Rattle.std.specs.Prelude.{ℕ, ◌+◌, ◌≤◌, ◌<◌, min, ◌≡◌, length};
 ghost use Rattle.std.proofs.lemmas.List.Edits.{sets};
 ghost use Rattle.tasklist.specs.Encode.{encode};
@@ -20,7 +22,7 @@ use semantics::{Answer, CallRefusal};
 use tasklist::Written;
 
 // What a task's search found, or why there is none.
-#[derive(Drop)]
+#[derive(Clone, Copy)]
 pub enum SearchAnswer {
     Refused { refusal: CallRefusal },
     Found { searched: Searched },

@@ -1,5 +1,7 @@
 // A run that is lent: start, step and end on a run behind a `&mut`, over the by-value methods of the crate `runtime`; and
 // the lender, which holds one run and lends it to each call of a piece of input.
+#![tactic(auto)]
+
 ghost use Rattle.semantics.specs.Plan.{start, step, «end»};
 ghost use Rattle.lent.specs.Handed.{CalledIn};
 ghost use Rattle.lent.specs.Pieces.{LentAs, LentOf};
@@ -11,7 +13,7 @@ use semantics::Answer;
 pub const PIECE: usize = 512;
 
 // A piece of the coordinator's input, the call at hand, and the numbers answered so far.
-#[derive(Drop)]
+#[derive(Clone, Copy)]
 pub struct Piece {
     // Whether there is one more call (document 01: two bytes, or half a call), its kind and its task.
     pub more: bool,
@@ -26,7 +28,7 @@ pub struct Piece {
 }
 
 // What the lender hands back: the run after the calls, and the piece with every number.
-#[derive(Drop)]
+#[derive(Clone, Copy)]
 pub struct Lent {
     pub run: Run,
     pub piece: Piece,

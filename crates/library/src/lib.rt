@@ -1,19 +1,21 @@
 // The numbers of a library file: read from its bytes, four for each, least first, and written back; and those of a table of
 // weights, two bytes for each.
+#![tactic(auto)]
+
 ghost use Rattle.std.specs.Prelude.{◌+◌, ◌*◌, ◌≤◌, ◌<◌, min, ◌≡◌, length, take, get_or};
 ghost use Rattle.std.proofs.lemmas.List.Edits.{sets};
 ghost use Rattle.library.specs.Library.{number_of, number_bytes, bytes_of, Read, Put};
 ghost use Rattle.library.specs.Table.{pair_of, ReadTable};
 
 // A library's numbers (document 01: entries): the first `count` values.
-#[derive(Drop)]
+#[derive(Clone, Copy)]
 pub struct Numbers {
     pub values: [u32; 64],
     pub count: usize,
 }
 
 // A table of weights (request 105): the first `count` values, all or none.
-#[derive(Drop)]
+#[derive(Clone, Copy)]
 pub struct Table {
     pub values: [u16; 15],
     pub count: usize,

@@ -1,4 +1,6 @@
 // Checks job lists: one line for each file named, its task count or `refused N`; `refused 1` too where it can't be read.
+#![tactic(auto)]
+
 use libc::STDOUT_FILENO;
 use tasklist::{Checked, Refusal};
 

@@ -1,5 +1,7 @@
 // What is asked of a decoded job list: its counts, sizes, lines and instructions. The reader and the tables stand beneath, in
 // `tasklist`; the writer above, in `writer`.
+#![tactic(auto)]
+
 mod access;
 
 pub use access::{

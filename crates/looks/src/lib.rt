@@ -1,8 +1,10 @@
 // The look that a call begins with: the task's place in the order, or why the call is refused.
+#![tactic(auto)]
+
 use semantics::CallRefusal;
 
 // Where a task stands in the order, or why a call on it is refused.
-#[derive(Drop)]
+#[derive(Clone, Copy)]
 pub enum Located {
     Refused { refusal: CallRefusal },
     At { place: usize },

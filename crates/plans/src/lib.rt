@@ -1,8 +1,10 @@
 // What an instruction of a task comes to, by the order, the modes, the memory and the task's registers, which are lent.
+#![tactic(auto)]
+
 use semantics::CallRefusal;
 
 // What an access of a task comes to: faults come before waiting.
-#[derive(Drop)]
+#[derive(Clone, Copy)]
 pub enum Access {
     Fault { fault: u8 },
     // Held back: 19, 20.
@@ -11,7 +13,7 @@ pub enum Access {
 }
 
 // What an instruction comes to, by the task's own record and a look at the tasks ahead.
-#[derive(Drop)]
+#[derive(Clone, Copy)]
 pub enum StepPlan {
     // The task is held back: 19, 20.
     Held {

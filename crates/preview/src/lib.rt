@@ -1,5 +1,7 @@
 // Check and the sequential run (document 01: hand run) for programs in C, which call them through include/preview.h.
 // A refusal is 128 plus its number.
+#![tactic(auto)]
+
 ghost use Rattle.std.specs.Prelude.{◌+◌, ◌≤◌, ◌≡◌, length, take};
 ghost use Rattle.tasklist.specs.Answers.{refusal_number};
 ghost use Rattle.semantics.specs.Operations.{gives, sequential_asked};

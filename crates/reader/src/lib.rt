@@ -1,16 +1,18 @@
 // The reader of job lists: check's answer, and the tables of an accepted list.
+#![tactic(auto)]
+
 use taking::Next;
 use tasklist::{Cell, Header, Line, Refusal};
 
 // The head and the position behind it.
-#[derive(Drop)]
+#[derive(Clone, Copy)]
 pub enum HeadTaken {
     Bad(Refusal),
     Took(Header, usize),
 }
 
 // The footprints' tables and the position behind them.
-#[derive(Drop)]
+#[derive(Clone, Copy)]
 pub struct Footprints {
     pub end: Next,
     pub widths: [u8; 32],
@@ -18,7 +20,7 @@ pub struct Footprints {
 }
 
 // The bodies' tables and the position behind them.
-#[derive(Drop)]
+#[derive(Clone, Copy)]
 pub struct Bodies {
     pub end: Next,
     pub sizes: [u8; 32],

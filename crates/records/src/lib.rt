@@ -1,8 +1,9 @@
 // What a call makes of a task's own record, of registers and of the memory, and what an instruction's case says of it; each one
 // equation. Nothing here knows of a run.
+#![tactic(auto)]
 
 // What a quotient comes to.
-#[derive(Drop)]
+#[derive(Clone, Copy)]
 pub enum Quotient {
     // 4 the result is above 2^32 - 1, 5 the divisor is 0.
     Fault { fault: u8 },

@@ -1,5 +1,7 @@
 // The program rounds: how many rounds the publication of jobs.bin and library.bin takes with 1 to 16 workers (request 111). It only
 // moves bytes; what it prints comes from the crates `host_rounds` and `wording`.
+#![tactic(auto)]
+
 use host_files::{FileRead, LIBRARY_ROOM, LIST_ROOM, read_file, size_of};
 use libc::STDOUT_FILENO;
 use runtime::OpenAnswer;

@@ -1,5 +1,7 @@
 // The rounds of request 111: how many a publication takes with so many workers. Stands above the runtime and uses its promises
 // only; what a round is, says the crate `model_rounds`.
+#![tactic(auto)]
+
 use runtime::OpenAnswer;
 
 // "P workers, 1 to 16"
@@ -12,7 +14,7 @@ pub const ALL_WORKERS: usize = 128;
 pub const MOST_ROUNDS: u32 = 4352;
 
 // What is answered to whom asks for the rounds.
-#[derive(Drop)]
+#[derive(Clone, Copy)]
 pub enum RoundsAnswer {
     // They are counted.
     Counted,
@@ -24,7 +26,7 @@ pub enum RoundsAnswer {
 
 // The report: the rounds with the workers asked for, the calls in them, and the span, which is the rounds with 128 workers. Zeros
 // where they are not counted.
-#[derive(Drop)]
+#[derive(Clone, Copy)]
 pub struct Rounded {
     pub answer: RoundsAnswer,
     pub rounds: u32,
@@ -33,7 +35,7 @@ pub struct Rounded {
 }
 
 // The reports with 1 to 16 workers, that with P at place P - 1. Zeros where open refuses.
-#[derive(Drop)]
+#[derive(Clone, Copy)]
 pub struct RoundsTable {
     pub answer: OpenAnswer,
     pub span: u32,
@@ -42,7 +44,7 @@ pub struct RoundsTable {
 }
 
 // What a look at a task's next call finds.
-#[derive(Drop)]
+#[derive(Clone, Copy)]
 pub enum Seen {
     // It would be refused.
     Held,
@@ -51,7 +53,7 @@ pub enum Seen {
 }
 
 // The calls of a round: the first `count` kinds, each of the task beside it.
-#[derive(Drop)]
+#[derive(Clone, Copy)]
 pub struct Batch {
     pub count: usize,
     pub kinds: [u8; ALL_WORKERS],
@@ -59,7 +61,7 @@ pub struct Batch {
 }
 
 // How many rounds there were, and how many calls in them.
-#[derive(Drop)]
+#[derive(Clone, Copy)]
 pub struct Tally {
     pub rounds: u32,
     pub calls: u32,

@@ -1,11 +1,13 @@
 // The runtime: a run by value, and what is done with it. Every promise is an equation with the model of the crate
 // `semantics`, for every run that came from open, the sequential run or calls; on any other run a call ends safely.
+#![tactic(auto)]
+
 use semantics::{Answer, CallRefusal, Record};
 use tasklist::{Refusal, Tables};
 
 // A run (document 01: an open run): the accepted list, the memory (the entries), a record for each task with its row of 64
 // modes, and the order: the first `left` places are the unended tasks, front to back.
-#[derive(Drop)]
+#[derive(Clone, Copy)]
 pub struct Run {
     pub tables: Tables,
     pub memory: [u32; 64],
@@ -21,14 +23,14 @@ pub struct Run {
 }
 
 // What start, step and end hand back: the answer, and the run after the call, the very same one where it is refused.
-#[derive(Drop)]
+#[derive(Clone, Copy)]
 pub struct Called {
     pub answer: Answer,
     pub run: Run,
 }
 
 // What open answers.
-#[derive(Drop)]
+#[derive(Clone, Copy)]
 pub enum OpenAnswer {
     Accepted,
     // 1 to 7: the list is refused.
@@ -42,14 +44,14 @@ pub enum OpenAnswer {
 }
 
 // What open gives: the answer, and the run, a blank one where it is refused.
-#[derive(Drop)]
+#[derive(Clone, Copy)]
 pub struct Opened {
     pub answer: OpenAnswer,
     pub run: Run,
 }
 
 // One task's record and its modes, all zero where it is refused.
-#[derive(Drop)]
+#[derive(Clone, Copy)]
 pub struct Recorded {
     pub answer: Answer,
     pub task: Record,
@@ -57,7 +59,7 @@ pub struct Recorded {
 }
 
 // What queue answers.
-#[derive(Drop)]
+#[derive(Clone, Copy)]
 pub enum Queued {
     // How many places it wrote.
     Places(usize),

@@ -6,7 +6,7 @@ use mathlib.Core.List.{List, [], ◌∷◌, ◌++◌, append_assoc}
 use mathlib.Core.Bool.{Bool, true, false, ◌||◌}
 use mathlib.Core.Logic.{◌⊎◌, inl, inr}
 use native.Mathlib.Omega.{arith}
-use lib.ListN.{length, get_or}
+use lib.ListN.{length, get_or, set}
 use lib.Dec.{leb}
 use borrow.Author.Tests.{eq-eqb, ne_eqb}
 use Rattle.tasklist.specs.declared.Instruction.{Instruction}
@@ -16,7 +16,7 @@ use Rattle.tasklist.specs.TaskList.{body_of, footprint_of}
 use Rattle.semantics.specs.Run.{Task, Run, Context, mode_of, register, no_modes, start_weight, end_weight, task_of}
 use Rattle.semantics.specs.Access.{Access, reads, every, ahead, allowed, access_fault}
 use Rattle.semantics.specs.Effect.{Effect, Plan, stop, go, fetch, own, in_state, moved, faulted, leaving}
-use Rattle.semantics.specs.Footprint.{Grant, denied, granted, unless_denied, grant, child_modes, all_targets, Children, none_made, all_made, children, fan_of}
+use Rattle.semantics.specs.Footprint.{Grant, denied, granted, unless_denied, grant, merged, child_modes, all_targets, Children, none_made, all_made, children, fan_of}
 use Rattle.semantics.specs.Plan.{unless_fault, plan_load, plan_store, plan_wait, plan_sum, quotient_fault, plan_quotient, plan_make, plan_instruction, at_end, needs_from, plan_start, plan_step, plan_end, start, step, end, plan}
 use Rattle.semantics.specs.Call.{splice, stays, places, apply}
 use Rattle.semantics.specs.Sound.{In, Distinct}
@@ -58,7 +58,7 @@ denied_faulty (suc k) g h = λ q. not_zero k q
 grant_faulty : (t : Task) (ms : List ℕ) (gs : List Access) → Faulty (grant t ms gs)
 unfolding grant
 grant_faulty t ms [] = tt
-grant_faulty t ms (g ∷ gs) = denied_faulty _ _ (grant_faulty t _ gs)
+grant_faulty t ms (g ∷ gs) = denied_faulty _ _ (grant_faulty t (set ms g.location (merged (get_or ms g.location 0) g.mode)) gs)
 
 children_faulty :
     (s : ℕ) (ls : List Line) (ts : List Task)

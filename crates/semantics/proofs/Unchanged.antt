@@ -60,12 +60,13 @@ pub record Unchanged (r r' : Run) (b : Call) : Type 0 where
 pub unchanged :
     (c : Context) → Accepted c.list → (r : Run) → Valid c r → (b : Call) (e : Effect) → Accepts c r b e
     → Unchanged r (apply b.task e r) b
+unfolding apply
 unchanged c ok r v b e h =
     record {
       body = ap (λ t. t.body) own_record ∙ (accepted_fair c ok r v b e h).body;
       modes = ap (λ t. t.modes) own_record ∙ (accepted_fair c ok r v b e h).modes;
       others = λ k ne s. task_other b.task e r k (absent k ne s);
-      memory = λ a m s. unfold apply in elsewhere e.edit (backed c ok r v b e h) a m s;
+      memory = stored;
     }
   where
     own_record : task_of (apply b.task e r) b.task ≡ charged e.weight e.task
@@ -93,3 +94,8 @@ unchanged c ok r v b e h =
         sort : a ≡ l → (mode_of (task_of r b.task) l ≡ 2) ⊎ (mode_of (task_of r b.task) l ≡ 3) → ⊥
         sort q (inl x) = m (ap (mode_of (task_of r b.task)) q ∙ x)
         sort q (inr x) = s (ap (mode_of (task_of r b.task)) q ∙ x)
+
+    stored :
+        (a : ℕ) → (mode_of (task_of r b.task) a ≡ 2 → ⊥) → (mode_of (task_of r b.task) a ≡ 3 → ⊥)
+        → get_or (apply b.task e r).memory a 0 ≡ get_or r.memory a 0
+    stored a m s = elsewhere e.edit (backed c ok r v b e h) a m s

@@ -1,8 +1,9 @@
 // The model of the runtime and its guarantee: the definitions are in specs/, the theorems in proofs/. The types declared
 // here are shared with the runtime, whose promises use the definitions.
+#![tactic(auto)]
 
 // A task's record (document 01: job), but for its 64 modes, which the runtime keeps in one table for all tasks.
-#[derive(Drop)]
+#[derive(Clone, Copy)]
 pub struct Record {
     // 0 never made, 1 waiting, 2 started, 3 ended
     pub state: u8,
@@ -19,7 +20,7 @@ pub struct Record {
 
 // Why a call, a record or a queue is refused: document 01's numbers 9 to 17, in this order, and request 102's 19 and 20 in
 // the place of 12.
-#[derive(Drop)]
+#[derive(Clone, Copy)]
 pub enum CallRefusal {
     // 9: a task number above 127.
     Number,
@@ -44,7 +45,7 @@ pub enum CallRefusal {
 }
 
 // What start, step and end answer: 0 or the refusal's number.
-#[derive(Drop)]
+#[derive(Clone, Copy)]
 pub enum Answer {
     Accepted,
     Refused { refusal: CallRefusal },

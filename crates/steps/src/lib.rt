@@ -1,4 +1,6 @@
 // What a step changes, by the lent tables, memory, modes, order and weights, and the task's own record.
+#![tactic(auto)]
+
 mod spawn;
 mod step;
 

@@ -1,36 +1,38 @@
 // Taking the fields of a job list's bytes: marks, numbers, lines and instructions, each taken only when whole and then tested.
+#![tactic(auto)]
+
 use tasklist::{Instruction, Line, Refusal};
 
 // The position behind a taken field, or why it is refused.
-#[derive(Drop)]
+#[derive(Clone, Copy)]
 pub enum Next {
     Bad(Refusal),
     At(usize),
 }
 
 // A number and the position behind it.
-#[derive(Drop)]
+#[derive(Clone, Copy)]
 pub enum NumberTaken {
     Bad(Refusal),
     Took(u8, usize),
 }
 
 // A footprint's line and the position behind it.
-#[derive(Drop)]
+#[derive(Clone, Copy)]
 pub enum LineTaken {
     Bad(Refusal),
     Took(Line, usize),
 }
 
 // An instruction and the position behind it.
-#[derive(Drop)]
+#[derive(Clone, Copy)]
 pub enum InstructionTaken {
     Bad(Refusal),
     Took(Instruction, usize),
 }
 
 // What four bytes say, where they are an instruction that passes its test.
-#[derive(Drop)]
+#[derive(Clone, Copy)]
 pub enum Form {
     Unknown,
     Known(Instruction),

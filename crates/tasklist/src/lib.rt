@@ -1,8 +1,9 @@
 // Job lists: document 01's binary format, the tables that a read list is kept in, and the task counts. The reader stands above, in
 // `taking` and `reader`, what is asked of the tables in `listing`, the writer in `writer`; the runtime uses promises only.
+#![tactic(auto)]
 
 // One instruction of a task body (document 01: sheet), one case for each of the thirteen forms.
-#[derive(Drop)]
+#[derive(Clone, Copy)]
 pub enum Instruction {
     // 0 const: register `target` := `value`.
     Const {
@@ -78,21 +79,21 @@ pub enum Instruction {
 
 // One line of a footprint: kind 0 reads and 1 writes location `value`; 2 reads and 3 writes the location whose
 // number is in register `value`; request 107: 4 sums location `value`, 5 the one named by register `value`.
-#[derive(Drop)]
+#[derive(Clone, Copy)]
 pub struct Line {
     pub kind: u8,
     pub value: u8,
 }
 
 // An element of the instruction table.
-#[derive(Drop)]
+#[derive(Clone, Copy)]
 pub struct Cell {
     pub instruction: Instruction,
 }
 
 // What an instruction is tested against: how many footprints and bodies the list has, the number and size of its
 // own body, and its place there.
-#[derive(Drop)]
+#[derive(Clone, Copy)]
 pub struct Scope {
     pub footprints: usize,
     pub bodies: usize,
@@ -103,7 +104,7 @@ pub struct Scope {
 
 // A job list in tables. Footprint f has `widths[f]` lines, from `lines[8 * f]` on; body s has `sizes[s]`
 // instructions, from `cells[32 * s]` on; `counts[s]` is document 01's count(s), 129 standing for all above 128.
-#[derive(Drop)]
+#[derive(Clone, Copy)]
 pub struct Tables {
     pub locations: u8,
     pub footprints: u8,
@@ -116,7 +117,7 @@ pub struct Tables {
 }
 
 // Why a list is refused: document 01's numbers 1 to 7, in this order.
-#[derive(Drop)]
+#[derive(Clone, Copy)]
 pub enum Refusal {
     // 1: the bytes end within a field.
     Incomplete,
@@ -135,7 +136,7 @@ pub enum Refusal {
 }
 
 // What check answers.
-#[derive(Drop)]
+#[derive(Clone, Copy)]
 pub enum Checked {
     // Accepted: document 01's count(0).
     Count(u8),
@@ -143,14 +144,14 @@ pub enum Checked {
 }
 
 // What reading gives: check's answer, and the tables of the list, blank ones where it is refused.
-#[derive(Drop)]
+#[derive(Clone, Copy)]
 pub struct Reading {
     pub answer: Checked,
     pub tables: Tables,
 }
 
 // What the writer answers.
-#[derive(Drop)]
+#[derive(Clone, Copy)]
 pub enum Written {
     // How many places it wrote.
     Places(usize),
@@ -159,7 +160,7 @@ pub enum Written {
 }
 
 // The head's numbers.
-#[derive(Drop)]
+#[derive(Clone, Copy)]
 pub struct Header {
     pub locations: u8,
     pub footprints: u8,

@@ -1,10 +1,12 @@
 // What the coordinator prints, on byte slices: the line of each call, between those of the crate `wording`. The program above it
 // only moves bytes.
+#![tactic(auto)]
+
 use runtime::Run;
 use wording::Pending;
 
 // The pending byte and a piece of input behind it: so many bytes at the front.
-#[derive(Drop)]
+#[derive(Clone, Copy)]
 pub struct Joined {
     pub bytes: [u8; 512],
     pub count: usize,
@@ -12,7 +14,7 @@ pub struct Joined {
 
 // A piece of input that was taken: the run after its calls, the byte that waits for the next piece, how many of its bytes
 // were used, and how many bytes were written.
-#[derive(Drop)]
+#[derive(Clone, Copy)]
 pub struct Fed {
     pub run: Run,
     pub pending: Pending,

@@ -1,10 +1,12 @@
 // The move of request 112, one side's against any other's: the next call of the foremost task. Stands above the runtime and uses
 // its promises only.
+#![tactic(auto)]
+
 use runtime::Run;
 use semantics::CallRefusal;
 
 // What the move answers.
-#[derive(Drop)]
+#[derive(Clone, Copy)]
 pub enum MoveAnswer {
     // 0: the foremost task's next call is made.
     Made,
@@ -15,7 +17,7 @@ pub enum MoveAnswer {
 }
 
 // What the move hands back: the answer, and the run after it, the very same one where it isn't made.
-#[derive(Drop)]
+#[derive(Clone, Copy)]
 pub struct Moved {
     pub answer: MoveAnswer,
     pub run: Run,

@@ -1,8 +1,9 @@
 // What the coordinator prints around its calls, on byte slices: a number on a line, the line of a refused open, of half a call, and
 // the closing lines.
+#![tactic(auto)]
 
 // The byte that a piece of input ends with, where it is the first of a call.
-#[derive(Drop)]
+#[derive(Clone, Copy)]
 pub enum Pending {
     Nothing,
     Kind(u8),

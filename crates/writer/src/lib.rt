@@ -1,5 +1,7 @@
 // The writer: the bytes of the list that tables stand for, from its own head to its last instruction. Stands above `listing`,
 // which reads the tables.
+#![tactic(auto)]
+
 ghost use Rattle.std.specs.Prelude.{◌+◌, ◌≤◌, ◌≡◌, [], ◌∷◌, length};
 ghost use Rattle.std.proofs.lemmas.List.Edits.{sets};
 ghost use Rattle.tasklist.specs.TaskList.{body_of, footprint_of};

@@ -1,0 +1,16 @@
+use Prim.Native.Nat.{◌-◌, ◌≤◌}
+use mathlib.Core.Path.{◌≡◌, sym, ap, ◌∙◌}
+use lib.ListN.{length, get_or}
+use native.Mathlib.Omega.{arith}
+use Rattle.semantics.specs.Access.{compatible}
+use Rattle.ahead.proofs.SearchLaws.{Looked, looked_none, looked_all, looked_whole, looked_writer, looked_pass, looked_other}
+use borrow.Author.Rules.{rules}
+use Rattle.ahead.proofs.search.hold_of.Given as goal
+
+abbrev pub invariant-loop-i : goal.invariant-loop-i
+invariant-loop-i l =
+    (l.i ≤ 64) × (length l.locations ≡ 64) × (length l.asked ≡ 64) × (l.locations ≡ l.wanted.locations) × (l.asked ≡ l.wanted.asked)
+    × (length l.modes ≡ 8192 → Looked l.modes l.task l.wanted l.others l.i)
+
+abbrev pub decreases-loop-i : goal.decreases-loop-i
+decreases-loop-i l = 64 - l.i

@@ -1,0 +1,14 @@
+use Prim.Native.Nat.{◌*◌, ◌-◌, ◌≤◌, ◌<◌}
+use mathlib.Core.Path.{◌≡◌, refl}
+use lib.ListN.{length}
+use lib.Seq.{paste, paste-zero}
+use native.Mathlib.Omega.{arith}
+use Rattle.arrays.proofs.RowLaws.{pasted_more, pasted_whole}
+use borrow.Author.Rules.{rules}
+use Rattle.arrays.proofs.modes.put_row.Given as goal
+
+abbrev pub invariant-loop-j : goal.invariant-loop-j
+invariant-loop-j l = (l.j ≤ 64) × (l.task < 128) × (l.base ≡ 64 * l.task) × (length l.row ≡ 64) × (length l.modes ≡ length l.initial.modes) × (length l.initial.modes ≡ 8192 → l.modes ≡ paste l.initial.modes l.base l.row l.j)
+
+abbrev pub decreases-loop-j : goal.decreases-loop-j
+decreases-loop-j l = 64 - l.j

@@ -1,0 +1,13 @@
+use Prim.Native.Nat.{◌-◌, ◌≤◌, ◌<◌}
+use mathlib.Core.Path.{◌≡◌, refl}
+use lib.ListN.{length}
+use native.Mathlib.Omega.{arith}
+use Rattle.arrays.proofs.OrderLaws.{Closing, closing_first, closing_forward, closing_last}
+use borrow.Author.Rules.{rules}
+use Rattle.arrays.proofs.order.remove.Given as goal
+
+abbrev pub invariant-loop-i : goal.invariant-loop-i
+invariant-loop-i l = (l.i < l.left) × (l.left ≤ 128) × (length l.order ≡ length l.initial.order) × (length l.initial.order ≡ 128 → Closing l.left l.at l.initial.order l.order l.i)
+
+abbrev pub decreases-loop-i : goal.decreases-loop-i
+decreases-loop-i l = l.left - l.i

@@ -1,0 +1,42 @@
+use Rattle.reader.proofs.RowLaws.{Behind, Within, rows_open, row_bad, row_opens, item_bad, item_kept, row_closes, rows_close}
+use Rattle.tasklist.proofs.TakenLaws.{counted_most}
+use Rattle.taking.proofs.FieldLaws.{told}
+use Rattle.taking.specs.Positions.{number_taken, instruction_taken}
+use Rattle.tasklist.specs.Answers.{refusal_number}
+use Rattle.tasklist.specs.Tables.{rows, instructions}
+use Rattle.tasklist.specs.Decode.{instruction, body}
+use Rattle.tasklist.specs.Fields.{Taken, took, bad, counted, many, row}
+use Rattle.tasklist.specs.declared.Cell.{Cell}
+use Rattle.tasklist.specs.declared.Instruction.{Instruction}
+use lib.ListN.{length, take, drop, set, length-set}
+use mathlib.Core.List.{List, [], ◌∷◌}
+use Prim.Native.Nat.{ℕ, ◌+◌, ◌-◌, ◌*◌, ◌≤◌, ◌<◌}
+use borrow.Author.Rules.{rules}
+use native.Mathlib.Omega.{arith}
+use mathlib.Core.Path.{◌≡◌, refl, sym, ap, ◌∙◌}
+use Rattle.reader.proofs.reader.read_bodies.Given as goal
+
+-- item i of body s, which has n of them: an instruction
+abbrev pub item : ℕ → ℕ → ℕ → ℕ → ℕ → List ℕ → Taken Instruction
+item footprints bodies s n i = instruction (record { footprints = footprints; bodies = bodies; body = s; size = n; place = i })
+
+-- all bodies, from the start
+abbrev pub all_of : List ℕ → ℕ → ℕ → ℕ → Taken (List (List Instruction))
+all_of bytes from footprints bodies = many (λ s. row 0x42 32 5 (item footprints bodies s)) 0 bodies [] (drop from bytes)
+
+abbrev pub invariant-loop-i : goal.invariant-loop-i
+invariant-loop-i l =
+    (l.i ≤ l.size) × (l.size ≡ l.n) × (l.n ≤ 32) × (l.s < l.bodies) × (l.bodies ≤ 32) × (length l.sizes ≡ 32) ×
+    (length l.cells ≡ 1024) ×
+    Within 0x42 32 5 (item l.footprints l.bodies) (all_of l.bytes l.from l.footprints l.bodies) l.bodies l.s l.n l.i l.sizes (instructions l.cells) (drop l.at l.bytes)
+
+abbrev pub decreases-loop-i : goal.decreases-loop-i
+decreases-loop-i l = l.size - l.i
+
+abbrev pub invariant-loop-s : goal.invariant-loop-s
+invariant-loop-s l =
+    (l.s ≤ l.bodies) × (l.bodies ≤ 32) × (length l.sizes ≡ 32) × (length l.cells ≡ 1024) ×
+    Behind 0x42 32 5 (item l.footprints l.bodies) (all_of l.bytes l.from l.footprints l.bodies) l.bodies l.s l.sizes (instructions l.cells) (drop l.at l.bytes)
+
+abbrev pub decreases-loop-s : goal.decreases-loop-s
+decreases-loop-s l = l.bodies - l.s

@@ -1,0 +1,15 @@
+-- By the test.
+-- Assumes nothing.
+use Rattle.records.proofs.ValueLaws.{is_less, not_less}
+use Rattle.std.proofs.Common.{rules}
+use Rattle.records.proofs.values.less.Reads as reads
+use Rattle.records.proofs.values.less.Lts as lts
+use Rattle.records.proofs.values.less.Goals as goal
+
+pub returns-then-left-right : goal.returns-then-left-right
+returns-then-left-right c =
+    is_less c.args.left c.args.right c.if-left-right.true
+
+pub returns-else-left-right : goal.returns-else-left-right
+returns-else-left-right c =
+    not_less c.args.left c.args.right c.if-left-right.false

@@ -1,0 +1,15 @@
+use Prim.Native.Nat.{◌+◌, ◌-◌, ◌*◌, ◌≤◌, ◌<◌}
+use mathlib.Core.Path.{◌≡◌, refl}
+use native.Mathlib.Omega.{arith}
+use Rattle.tasklist.specs.TaskList.{footprint_of}
+use Rattle.tasklist.specs.Tables.{list_of}
+use Rattle.tables.proofs.ChildLaws.{ToPut, to_put_all, next_number, put_one, rows_put, places_put}
+use borrow.Author.Rules.{rules}
+use Rattle.tables.proofs.children.put_children.Given as goal
+
+abbrev pub invariant-loop-i : goal.invariant-loop-i
+invariant-loop-i l =
+    ToPut l.registers l.own (footprint_of (list_of l.tables) l.footprint) l.initial.row l.left l.at l.child l.apart l.children l.initial.modes l.initial.order l.i l.count l.row l.modes l.order
+
+abbrev pub decreases-loop-i : goal.decreases-loop-i
+decreases-loop-i l = l.i

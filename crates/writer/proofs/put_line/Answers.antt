@@ -1,0 +1,19 @@
+-- Two stores.
+-- Assumes nothing.
+use Rattle.tasklist.specs.Encode.{line_fields}
+use native.Mathlib.Numerals.{add-one}
+use lib.Seq.{sets}
+use lib.ListN.{length, get_or, length-set}
+use mathlib.Core.List.{List, [], ◌∷◌}
+use Prim.Native.Nat.{ℕ, ◌+◌, ◌*◌, ◌-◌, ◌<◌, ◌≤◌, ◌%◌}
+use native.Mathlib.Omega.{arith}
+use mathlib.Core.Path.{◌≡◌, refl, sym, ap, ◌∙◌, subst}
+use borrow.Author.Rules.{rules}
+use Rattle.writer.proofs.put_line.Goals as goal
+
+pub bounds-out-at-2 : goal.bounds-out-at-2
+bounds-out-at-2 c = simp length-set (omega arith)
+
+pub returns : goal.returns
+unfolding line_fields
+returns c = rw (add-one c.args.at) refl

@@ -1,0 +1,14 @@
+use Prim.Native.Nat.{ℕ, ◌+◌, ◌-◌, ◌≤◌}
+use mathlib.Core.Path.{◌≡◌, ap, ◌∙◌}
+use mathlib.Core.List.{◌++◌}
+use native.Mathlib.Omega.{arith}
+use lib.ListN.{set, replicate}
+use Rattle.fresh.proofs.StateLaws.{started_with}
+use borrow.Author.Rules.{rules}
+use Rattle.fresh.proofs.state.root_modes.Given as goal
+
+abbrev pub invariant-loop-a : goal.invariant-loop-a
+invariant-loop-a l = (l.a ≤ l.locations) × (l.modes ≡ replicate l.a 2 ++ replicate (8192 - l.a) 0)
+
+abbrev pub decreases-loop-a : goal.decreases-loop-a
+decreases-loop-a l = l.locations - l.a

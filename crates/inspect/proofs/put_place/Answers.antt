@@ -1,0 +1,24 @@
+-- One place is put, unless the mode is 0.
+-- Assumes nothing.
+use Prim.Native.Nat.{◌-◌}
+use mathlib.Core.Path.{sym, ap}
+use native.Mathlib.Omega.{arith}
+use lib.ListN.{length}
+use lib.Seq.{sets}
+use Rattle.inspect.proofs.AskLaws.{shown_none, shown_one}
+use borrow.Author.Rules.{rules}
+use Rattle.inspect.proofs.put_place.Goals as goal
+
+pub returns-then-mode-eq0 : goal.returns-then-mode-eq0
+returns-then-mode-eq0 c =
+    let none = shown_none c.args.task c.args.mode c.if-mode-eq0.true in
+    (omega (arith, ap length none), sym (ap (sets c.args.out.now c.args.at) none))
+
+pub bounds-out-at : goal.bounds-out-at
+bounds-out-at c =
+    omega (arith, ap length (shown_one c.args.task c.args.mode c.if-mode-eq0.false), c.requires)
+
+pub returns : goal.returns
+returns c =
+    let one = shown_one c.args.task c.args.mode c.if-mode-eq0.false in
+    (omega (arith, ap length one), sym (ap (sets c.args.out.now c.args.at) one))

@@ -1,0 +1,12 @@
+use Rattle.std.proofs.Common.{◌+◌, ◌-◌, ◌*◌, ◌<◌, arith, rules}
+use Rattle.semantics.specs.Plan.{step}
+use Rattle.steps.proofs.ChildrenLaws.{ChildrenLeft, children_all, child_written, children_written}
+use Rattle.runtime.proofs.MethodLaws.{stepped_refused, stepped_taken}
+use Rattle.runtime.proofs.Run.step.Given as goal
+
+abbrev pub invariant-loop-i : goal.invariant-loop-i
+invariant-loop-i l =
+    ChildrenLeft l.child l.apart l.made l.initial.i l.initial.records l.i l.records
+
+abbrev pub decreases-loop-i : goal.decreases-loop-i
+decreases-loop-i l = l.i

@@ -8,7 +8,7 @@ use native.Mathlib.Omega.{arith}
 use native.Mathlib.Numerals.{add-one}
 use native.Mathlib.Nat.{add-zero, zero-add, add-suc, suc-add, div-div-eq-div-mul, mod-eq_of_lt}
 use lib.ListN.{length, take, drop, get_or, set, length-append, length-take}
-use lib.Seq.{sets, length-sets, sets-eq, take-suc, take-suc-set, length-take-le, take_all}
+use lib.Seq.{sets, sets-eq, take-suc, take-suc-set, length-take-le, take_all}
 use borrow.Author.Tests.{eq-eqb, ne_eqb, le-leb, lt-leb, leb-true, leb-false}
 use Rattle.library.specs.Library.{number_of, numbers_of, number_bytes, bytes_of, memory_of, fitting, Read, at_front, Put}
 

@@ -1,10 +1,10 @@
 -- Laws of places: what stands where in a table of rows, in the code's terms.
-use Prim.Native.Nat.{ℕ, zero, suc, ◌+◌, ◌-◌, ◌*◌, ◌≤◌, ◌<◌, min}
+use Prim.Native.Nat.{ℕ, zero, suc, ◌+◌, ◌*◌, ◌≤◌, ◌<◌, min}
 use mathlib.Core.Path.{◌≡◌, refl, sym, ap, ◌∙◌}
 use mathlib.Core.List.{List, [], ◌∷◌, map}
 use native.Mathlib.Omega.{arith}
 use native.Mathlib.Decide.{dec_lt}
-use native.Mathlib.Nat.{mul-zero, mul-suc, mul-le-mul_left}
+use native.Mathlib.Nat.{mul-zero, mul-suc}
 use lib.ListN.{length, take, drop, get_or, length-drop, length-take, length-map, get_or-map, get_or-eq_default}
 use lib.Seq.{drop-drop, get_or-take, get_or-drop, length-take-le}
 use Rattle.tasklist.specs.declared.Tables.{Tables}

@@ -9,7 +9,7 @@ use Rattle.tasklist.specs.declared.Header.{Header}
 use Rattle.tasklist.specs.declared.Line.{Line}
 use Rattle.tasklist.specs.declared.Instruction.{Instruction}
 use Rattle.tasklist.specs.TaskList.{TaskList, total, count_body, count_from, counts, task_count}
-use Rattle.tasklist.specs.Fields.{Taken, bad, took, and_then, field, is_tag, tag, in_range, number, counted, many, row}
+use Rattle.tasklist.specs.Fields.{bad, took, and_then, field, is_tag, tag, in_range, number, counted, many, row}
 use Rattle.tasklist.specs.Decode.{head_numbers, head, footprint, body, list_behind, refused, accepted, sized, finish, empty_list, decode}
 use Rattle.tasklist.specs.Encode.{marked}
 use Rattle.tasklist.specs.Tables.{capped}

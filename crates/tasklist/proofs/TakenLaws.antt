@@ -1,14 +1,14 @@
 -- What a field that was taken tells: it was whole, and it passed its test.
 use Prim.Native.Nat.{ℕ, ◌≤◌}
-use mathlib.Core.Path.{◌≡◌, refl, sym, ap, ◌∙◌}
+use mathlib.Core.Path.{◌≡◌, refl, ◌∙◌}
 use mathlib.Core.List.{List}
 use mathlib.Core.Bool.{Bool, true, false, cond, ◌&&◌}
 use mathlib.Core.Option.{Option, none, some}
 use native.Mathlib.Omega.{arith}
 use lib.ListN.{length, take, drop, get_or}
-use lib.Dec.{leb, eqb}
+use lib.Dec.{leb}
 use borrow.Author.Tests.{leb-true}
-use Rattle.tasklist.specs.Fields.{Taken, bad, took, and_then, tested, field, only_if, is_tag, tag, in_range, number, counted}
+use Rattle.tasklist.specs.Fields.{Taken, bad, took, and_then, tested, field, only_if, tag, in_range, number, counted}
 
 pub absurd_bad : {A : Type 0} {Goal : Type 0} (k : ℕ) (a : A) (b : List ℕ) → bad k ≡ took a b → Goal
 absurd_bad k a b e = let z : ◌≡◌ {A = ℕ} 0 1 = cc in let y : ⊥ = omega arith in absurd y

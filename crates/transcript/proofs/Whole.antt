@@ -151,7 +151,7 @@ pub prints_the_transcript :
     (jobs library : List ℕ) (o : Opened) → OpenedAs jobs fixed_weights (open_asked jobs (memory_of library) fixed_weights) o
     → (pieces : List (List ℕ)) (shown : List ℕ) → Coordinated (open_number o.answer) o pieces shown
     → shown ≡ transcript jobs library (all_of pieces)
-unfolding open_asked transcript printed
+unfolding open_asked transcript printed open_bytes pending_bytes
 prints_the_transcript jobs library o h pieces shown t = by_case (asked_case jobs memory fixed_weights)
   where
     memory : List ℕ
@@ -166,7 +166,7 @@ prints_the_transcript jobs library o h pieces shown t = by_case (asked_case jobs
     refusal : (k : ℕ) → 1 ≤ k → Unopened k o → shown ≡ refused_line k
     refusal zero some u = let z : ⊥ = omega arith in absurd z
     refusal (suc k) some u =
-        printed_is 11 (open_bytes (suc k)) shown (subst (λ n. Coordinated n o pieces shown) u.answer t) ∙ (unfold open_bytes in refl)
+        printed_is 11 (open_bytes (suc k)) shown (subst (λ n. Coordinated n o pieces shown) u.answer t) ∙ refl
 
     running :
         (l : TaskList) → decode jobs ≡ accepted l → Running jobs fixed_weights (initial (context l fixed_weights) memory) o
@@ -177,7 +177,7 @@ prints_the_transcript jobs library o h pieces shown t = by_case (asked_case jobs
         session_lines pieces o.run Nothing shown r.sound (subst (λ n. Coordinated n o pieces shown) r.answer t)
         ∙ ap (λ m. lines_from (context_of o.run) m (pending_bytes Nothing ++ input)) r.run
         ∙ ap (λ c. lines_from c (initial (context l fixed_weights) memory) (pending_bytes Nothing ++ input)) under
-        ∙ (unfold pending_bytes in refl)
+        ∙ refl
 
     opened : Asked Semantics.Run → Type 0
     opened a = OpenedAs jobs fixed_weights a o

@@ -5,7 +5,6 @@ use mathlib.Core.Path.{sym, ap, ◌∙◌}
 use native.Mathlib.Omega.{arith}
 use native.Mathlib.Nat.{div-zero}
 use Rattle.bill_shares.proofs.CodeLaws.{floor_most}
-use borrow.Author.Rules.{rules}
 use Rattle.bill_shares.proofs.floor_of.Goals as goal
 
 pub returns-then-all-eq0 : goal.returns-then-all-eq0

@@ -1,10 +1,10 @@
 -- The first values are those of the first weights.
 -- Assumes nothing.
-use Prim.Native.Nat.{ℕ, ◌-◌, ◌*◌, ◌/◌, ◌≤◌, ◌<◌}
+use Prim.Native.Nat.{ℕ, ◌*◌, ◌/◌, ◌<◌}
 use mathlib.Core.Path.{◌≡◌, refl, subst, ◌∙◌}
 use mathlib.Core.List.{map}
 use native.Mathlib.Omega.{arith}
-use lib.ListN.{length, take, length-set, length-replicate}
+use lib.ListN.{take, length-set, length-replicate}
 use Rattle.bill_shares.proofs.CodeLaws.{value_most, fill_more}
 use borrow.Author.Rules.{rules}
 use Rattle.bill_shares.proofs.floors_of.Goals as goal

@@ -1,10 +1,7 @@
-use Prim.Native.Nat.{ℕ, ◌-◌, ◌*◌, ◌/◌, ◌≤◌, ◌<◌}
-use mathlib.Core.Path.{◌≡◌, refl, subst, ◌∙◌}
+use Prim.Native.Nat.{◌-◌, ◌*◌, ◌/◌, ◌≤◌}
+use mathlib.Core.Path.{◌≡◌}
 use mathlib.Core.List.{map}
-use native.Mathlib.Omega.{arith}
-use lib.ListN.{length, take, length-set, length-replicate}
-use Rattle.bill_shares.proofs.CodeLaws.{value_most, fill_more}
-use borrow.Author.Rules.{rules}
+use lib.ListN.{length, take}
 use Rattle.bill_shares.proofs.floors_of.Given as goal
 
 abbrev pub invariant-loop-i : goal.invariant-loop-i

@@ -1,10 +1,10 @@
 -- Share by share, with zeros behind.
 -- Assumes nothing.
-use Prim.Native.Nat.{ℕ, ◌-◌, ◌≤◌}
+use Prim.Native.Nat.{ℕ, ◌-◌}
 use mathlib.Core.Path.{◌≡◌, refl, ap, ◌∙◌}
 use mathlib.Core.List.{◌++◌}
 use native.Mathlib.Omega.{arith}
-use lib.ListN.{length, replicate, length-set, length-replicate}
+use lib.ListN.{replicate, length-set, length-replicate}
 use Rattle.bill_shares.specs.Shares.{listed}
 use Rattle.bill_shares.proofs.CodeLaws.{value_most, given, given_is, listed_more}
 use borrow.Author.Rules.{rules}

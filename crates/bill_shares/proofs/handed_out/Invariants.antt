@@ -1,11 +1,9 @@
-use Prim.Native.Nat.{ℕ, ◌-◌, ◌≤◌}
-use mathlib.Core.Path.{◌≡◌, refl, ap, ◌∙◌}
+use Prim.Native.Nat.{◌-◌, ◌≤◌}
+use mathlib.Core.Path.{◌≡◌}
 use mathlib.Core.List.{◌++◌}
-use native.Mathlib.Omega.{arith}
-use lib.ListN.{length, replicate, length-set, length-replicate}
+use lib.ListN.{length, replicate}
 use Rattle.bill_shares.specs.Shares.{listed}
-use Rattle.bill_shares.proofs.CodeLaws.{value_most, given, given_is, listed_more}
-use borrow.Author.Rules.{rules}
+use Rattle.bill_shares.proofs.CodeLaws.{given}
 use Rattle.bill_shares.proofs.handed_out.Given as goal
 
 abbrev pub invariant-loop-i : goal.invariant-loop-i

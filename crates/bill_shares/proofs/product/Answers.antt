@@ -4,7 +4,6 @@ use Prim.Native.Nat.{◌*◌}
 use mathlib.Core.Path.{ap, ◌∙◌}
 use native.Mathlib.Omega.{arith}
 use Rattle.bill_shares.proofs.CodeLaws.{product_fits}
-use borrow.Author.Rules.{rules}
 use Rattle.bill_shares.proofs.product.Goals as goal
 
 pub overflow_mul-result : goal.overflow_mul-result

@@ -1,12 +1,11 @@
 -- What is counted are the places looked at that come before.
 -- Assumes nothing.
-use Prim.Native.Nat.{◌-◌, ◌≤◌}
 use mathlib.Core.Path.{◌≡◌, refl, sym}
 use native.Mathlib.Omega.{arith}
-use lib.ListN.{length, take, get_or}
+use lib.ListN.{take, get_or}
 use Rattle.bill_shares.specs.Shares.{comes_before}
 use Rattle.bill_shares.proofs.Counting.{count_empty}
-use Rattle.bill_shares.proofs.CodeLaws.{one_if_most, ahead, ahead_more, ahead_all}
+use Rattle.bill_shares.proofs.CodeLaws.{one_if_most, ahead_more, ahead_all}
 use borrow.Author.Rules.{rules}
 use Rattle.bill_shares.proofs.rank_in.Goals as goal
 

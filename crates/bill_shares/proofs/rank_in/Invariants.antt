@@ -1,11 +1,7 @@
 use Prim.Native.Nat.{◌-◌, ◌≤◌}
-use mathlib.Core.Path.{◌≡◌, refl, sym}
-use native.Mathlib.Omega.{arith}
-use lib.ListN.{length, take, get_or}
-use Rattle.bill_shares.specs.Shares.{comes_before}
-use Rattle.bill_shares.proofs.Counting.{count_empty}
-use Rattle.bill_shares.proofs.CodeLaws.{one_if_most, ahead, ahead_more, ahead_all}
-use borrow.Author.Rules.{rules}
+use mathlib.Core.Path.{◌≡◌}
+use lib.ListN.{length, get_or}
+use Rattle.bill_shares.proofs.CodeLaws.{ahead}
 use Rattle.bill_shares.proofs.rank_in.Given as goal
 
 abbrev pub invariant-loop-j : goal.invariant-loop-j

@@ -3,7 +3,6 @@
 use Prim.Native.Nat.{◌*◌, ◌%◌}
 use mathlib.Core.Path.{sym, ap, ◌∙◌}
 use native.Mathlib.Nat.{mod-zero}
-use borrow.Author.Rules.{rules}
 use Rattle.bill_shares.proofs.remainder_of.Goals as goal
 
 pub returns-then-all-eq0 : goal.returns-then-all-eq0

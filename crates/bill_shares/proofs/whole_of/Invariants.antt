@@ -1,11 +1,7 @@
-use Prim.Native.Nat.{ℕ, ◌-◌, ◌*◌, ◌^◌, ◌≤◌, ◌<◌, min}
-use mathlib.Core.Path.{◌≡◌, refl, ap, ◌∙◌}
-use native.Mathlib.Omega.{arith}
+use Prim.Native.Nat.{◌-◌, ◌*◌, ◌^◌, ◌≤◌}
+use mathlib.Core.Path.{◌≡◌}
 use lib.ListN.{length, take}
 use Rattle.bill_shares.specs.Shares.{whole}
-use Rattle.bill_shares.proofs.ShareLaws.{whole_more}
-use Rattle.bill_shares.proofs.CodeLaws.{take_clipped}
-use borrow.Author.Rules.{rules}
 use Rattle.bill_shares.proofs.whole_of.Given as goal
 
 abbrev pub invariant-loop-place : goal.invariant-loop-place

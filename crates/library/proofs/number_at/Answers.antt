@@ -1,8 +1,5 @@
 use borrow.Author.Rules.{rules}
 use Rattle.library.specs.Library.{number_of}
-use Rattle.library.proofs.number_at.Reads as reads
-use Rattle.library.proofs.number_at.Lts as lts
-use Rattle.library.proofs.wide.Reads as wide_reads
 use Rattle.library.proofs.number_at.Goals as goal
 
 -- src/lib.rt:21:1

@@ -4,7 +4,6 @@ use native.Mathlib.Numerals.{add-one, add-two, add-three}
 use native.Mathlib.Omega.{arith}
 use mathlib.Core.Path.{refl}
 use lib.ListN.{length-set}
-use borrow.Author.Rules.{rules}
 use Rattle.library.specs.Library.{number_bytes}
 use Rattle.library.proofs.put_number.Goals as goal
 

@@ -1,12 +1,8 @@
-use Prim.Native.Nat.{ℕ, ◌*◌, ◌-◌, ◌≤◌, ◌<◌}
-use mathlib.Core.Path.{◌≡◌, refl, sym, ap, ◌∙◌}
-use native.Mathlib.Omega.{arith}
-use mathlib.Core.List.{List}
-use lib.ListN.{length, take, get_or}
-use lib.Seq.{sets, length-sets}
-use borrow.Author.Rules.{rules}
-use Rattle.library.specs.Library.{bytes_of, number_bytes}
-use Rattle.library.proofs.LibraryLaws.{put_more}
+use Prim.Native.Nat.{◌-◌, ◌≤◌}
+use mathlib.Core.Path.{◌≡◌}
+use lib.ListN.{length, take}
+use lib.Seq.{sets}
+use Rattle.library.specs.Library.{bytes_of}
 use Rattle.library.proofs.put_numbers.Given as goal
 
 abbrev pub invariant-loop-i : goal.invariant-loop-i

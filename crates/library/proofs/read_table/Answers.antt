@@ -1,9 +1,9 @@
 -- The first numbers are those of the bytes; another length gives none.
 -- Assumes nothing.
-use Prim.Native.Nat.{ℕ, ◌-◌, ◌≤◌}
+use Prim.Native.Nat.{ℕ}
 use mathlib.Core.Path.{◌≡◌, refl, sym, ap, ◌∙◌}
 use native.Mathlib.Omega.{arith}
-use lib.ListN.{length, take, length-set, length-replicate}
+use lib.ListN.{take, length-set, length-replicate}
 use borrow.Author.Rules.{rules}
 use Rattle.library.specs.Table.{pairs_of}
 use Rattle.library.proofs.TableLaws.{read_none, read_all, read_more}

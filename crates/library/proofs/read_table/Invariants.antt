@@ -1,10 +1,7 @@
-use Prim.Native.Nat.{ℕ, ◌-◌, ◌≤◌}
-use mathlib.Core.Path.{◌≡◌, refl, sym, ap, ◌∙◌}
-use native.Mathlib.Omega.{arith}
-use lib.ListN.{length, take, length-set, length-replicate}
-use borrow.Author.Rules.{rules}
+use Prim.Native.Nat.{◌-◌, ◌≤◌}
+use mathlib.Core.Path.{◌≡◌}
+use lib.ListN.{length, take}
 use Rattle.library.specs.Table.{pairs_of}
-use Rattle.library.proofs.TableLaws.{read_none, read_all, read_more}
 use Rattle.library.proofs.read_table.Given as goal
 
 abbrev pub invariant-loop-i : goal.invariant-loop-i

@@ -1,8 +1,6 @@
 -- Too short a slice is left alone.
 -- Assumes nothing.
-use Prim.Native.Nat.{ℕ, ◌*◌, ◌≤◌, ◌<◌}
-use mathlib.Core.Path.{◌≡◌, refl, sym, ap, ◌∙◌}
-use native.Mathlib.Omega.{arith}
+use mathlib.Core.Path.{ap, ◌∙◌}
 use lib.ListN.{length, take}
 use lib.Seq.{length-sets}
 use borrow.Author.Rules.{rules}

@@ -37,7 +37,7 @@ found c run =
 looked :
     (c : After-search_ahead-searched) (x : Hold) → c.search_ahead-searched.result.hold ≡ x → (run : Parts)
     → record_of run c.args.task ≡ c.args.own
-    →    SoundRun (run_at c.before.before.before.before run) → decided (run_at c.before.before.before.before run) start (task-at c.before.before.before.before) ≡ outcome_by x (start_effect (run_at c.before.before.before.before run) (task-at c.before.before.before.before))
+    → SoundRun (run_at c.before.before.before.before run) → decided (run_at c.before.before.before.before run) start (task-at c.before.before.before.before) ≡ outcome_by x (start_effect (run_at c.before.before.before.before run) (task-at c.before.before.before.before))
 unfolding searched_ahead
 looked c x is run same s =
     let wanted = c.wanted_of-wanted in

@@ -52,8 +52,7 @@ loop-i-init c =
     let a = c.args in
     let loop = c.loop-s in
     let loop_test = c.loop-s-test in
-    let take_counted = c.take_counted in
-    (
+    let take_counted = c.take_counted in (
       search rules,
       refl,
       counted_most 0x42 32 5 (drop loop.at a.bytes.now) c.in-Took.n (drop

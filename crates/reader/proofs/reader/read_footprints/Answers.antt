@@ -45,8 +45,7 @@ loop-j-init c =
     let a = c.args in
     let loop = c.loop-f in
     let loop_test = c.loop-f-test in
-    let take_counted = c.take_counted in
-    (
+    let take_counted = c.take_counted in (
       search rules,
       refl,
       counted_most 0x46 8 4 (drop loop.at a.bytes.now) c.in-Took.n (drop
@@ -91,8 +90,7 @@ loop-j-preserved c =
     let a = c.args in
     let loop = c.loop-f in
     let loop2 = c.loop-j in
-    let loop2_test = c.loop-j-test in
-    (
+    let loop2_test = c.loop-j-test in (
       search rules,
       loop2.invariant.1,
       loop2.invariant.2,

@@ -3,10 +3,9 @@
 use Rattle.tasklist.specs.TaskList.{adds}
 use lib.ListN.{get_or}
 use Rattle.tasklist.proofs.CountLaws.{product_small, product}
-use Prim.Native.Nat.{ℕ, ◌*◌}
+use Prim.Native.Nat.{ℕ}
 use native.Mathlib.Omega.{arith}
-use mathlib.Core.Path.{◌≡◌, refl, sym, ap, ◌∙◌}
-use borrow.Author.Rules.{rules}
+use mathlib.Core.Path.{sym, ap, ◌∙◌}
 use Rattle.tasklist.proofs.counts.added.Goals as goal
 
 pub overflow_mul-result : goal.overflow_mul-result

@@ -3,8 +3,7 @@
 use lib.ListN.{get_or-eq_default}
 use Rattle.tasklist.proofs.PlaceLaws.{get_d_default}
 use native.Mathlib.Omega.{arith}
-use mathlib.Core.Path.{◌≡◌, refl, sym, ap, ◌∙◌}
-use borrow.Author.Rules.{rules}
+use mathlib.Core.Path.{sym}
 use Rattle.tasklist.proofs.counts.count_at.Goals as goal
 
 pub returns-then-s-lt32 : goal.returns-then-s-lt32

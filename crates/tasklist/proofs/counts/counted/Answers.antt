@@ -3,8 +3,7 @@
 use Rattle.tasklist.specs.Tables.{capped}
 use Prim.Native.Nat.{ℕ, ◌+◌, ◌≤◌}
 use native.Mathlib.Omega.{arith}
-use mathlib.Core.Path.{◌≡◌, refl, sym, ap, ◌∙◌}
-use borrow.Author.Rules.{rules}
+use mathlib.Core.Path.{◌≡◌, sym, ap, ◌∙◌}
 use Rattle.tasklist.proofs.counts.counted.Goals as goal
 
 none_added : (n v : ℕ) → v ≡ 0 → n ≤ 129 → n ≡ capped (n + v)

@@ -1,18 +1,17 @@
 -- From the last body to the first: the table has the counts of the bodies behind (CountLaws).
 -- Assumes nothing.
 use Rattle.tasklist.proofs.PlaceLaws.{rows_length, row_of, row_length, row_place, getD_held}
-use Rattle.tasklist.proofs.CountLaws.{Summed, sum_more, sum_whole, sum_starts, known_from, Known, known_starts, known_more, known_whole}
-use Rattle.tasklist.specs.Tables.{rows, instructions, capped, blank_cell}
+use Rattle.tasklist.proofs.CountLaws.{sum_more, sum_whole, sum_starts, Known, known_starts, known_more, known_whole}
+use Rattle.tasklist.specs.Tables.{instructions, capped, blank_cell}
 use Rattle.tasklist.specs.TaskList.{adds, count_body, blank_instruction}
 use Rattle.tasklist.specs.declared.Cell.{Cell}
 use Rattle.tasklist.specs.declared.Instruction.{Instruction}
 use lib.Seq.{length-take-le}
-use lib.ListN.{length, take, drop, get_or, set, length-set, length-map}
-use mathlib.Core.List.{List, [], ◌∷◌}
-use Prim.Native.Nat.{ℕ, suc, ◌+◌, ◌-◌, ◌*◌, ◌≤◌, ◌<◌, min}
+use lib.ListN.{length, take, get_or, length-set, length-map}
+use Prim.Native.Nat.{ℕ, suc, ◌+◌, ◌-◌, ◌*◌, ◌≤◌, ◌<◌}
 use borrow.Author.Rules.{rules}
 use native.Mathlib.Omega.{arith}
-use mathlib.Core.Path.{◌≡◌, refl, sym, ap, ◌∙◌, subst}
+use mathlib.Core.Path.{◌≡◌, refl, sym, ◌∙◌, subst}
 use Rattle.tasklist.proofs.counts.task_counts.Invariants.{bodies_of, behind, sum_of}
 use Rattle.tasklist.proofs.counts.task_counts.Goals as goal
 

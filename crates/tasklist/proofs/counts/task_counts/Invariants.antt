@@ -1,16 +1,13 @@
-use Rattle.tasklist.proofs.PlaceLaws.{rows_length, row_of, row_length, row_place, getD_held}
-use Rattle.tasklist.proofs.CountLaws.{Summed, sum_more, sum_whole, sum_starts, known_from, Known, known_starts, known_more, known_whole}
-use Rattle.tasklist.specs.Tables.{rows, instructions, capped, blank_cell}
-use Rattle.tasklist.specs.TaskList.{adds, count_body, blank_instruction}
+use Rattle.tasklist.proofs.PlaceLaws.{row_of}
+use Rattle.tasklist.proofs.CountLaws.{Summed, known_from, Known}
+use Rattle.tasklist.specs.Tables.{rows, instructions}
+use Rattle.tasklist.specs.TaskList.{count_body}
 use Rattle.tasklist.specs.declared.Cell.{Cell}
 use Rattle.tasklist.specs.declared.Instruction.{Instruction}
-use lib.Seq.{length-take-le}
-use lib.ListN.{length, take, drop, get_or, set, length-set, length-map}
-use mathlib.Core.List.{List, [], ◌∷◌}
-use Prim.Native.Nat.{ℕ, suc, ◌+◌, ◌-◌, ◌*◌, ◌≤◌, ◌<◌, min}
-use borrow.Author.Rules.{rules}
-use native.Mathlib.Omega.{arith}
-use mathlib.Core.Path.{◌≡◌, refl, sym, ap, ◌∙◌, subst}
+use lib.ListN.{length, take, get_or}
+use mathlib.Core.List.{List}
+use Prim.Native.Nat.{ℕ, suc, ◌-◌, ◌≤◌, min}
+use mathlib.Core.Path.{◌≡◌}
 use Rattle.tasklist.proofs.counts.task_counts.Given as goal
 
 abbrev pub bodies_of : ℕ → List ℕ → List Cell → List (List Instruction)

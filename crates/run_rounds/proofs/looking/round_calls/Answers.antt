@@ -1,0 +1,119 @@
+-- Task by task of the order: what is found, and what is still to come, are the round's calls. Assumes nothing.
+use Prim.Native.Nat.{ℕ, ◌-◌, ◌<◌}
+use mathlib.Core.Path.{◌≡◌, refl, subst, ap, ◌∙◌}
+use native.Mathlib.Omega.{arith}
+use lib.ListN.{length, get_or}
+use borrow.Author.Rules.{rules}
+use Rattle.tasklist.specs.TaskList.{body_of}
+use Rattle.tasklist.specs.Tables.{list_of, blank_cell}
+use Rattle.tasklist.specs.contracts.Cell.{the_type as the_cell}
+use Rattle.tasklist.proofs.PlaceLaws.{length_lowered}
+use Rattle.listing.proofs.AccessLaws.{body_size_is, instruction_is}
+use Rattle.runtime.specs.View.{parts_of}
+use Rattle.runtime.specs.Parts.{record_of}
+use Rattle.run_rounds.specs.Looking.{SeenAs}
+use Rattle.run_rounds.proofs.BatchLaws.{Found, found_none, found_last, found_enough, task_below, found_held, found_ready}
+use Rattle.run_rounds.proofs.looking.round_calls.Goals.{After-next_seen-next, After-row_size-size, At-loop-i, Else-task-gt127, Start}
+use Rattle.run_rounds.proofs.looking.round_calls.Goals as goal
+
+-- where the loop stands at a look, and where the function began
+abbrev sized : After-next_seen-next → After-row_size-size
+sized c = c.before.before.before.before.before.before
+
+abbrev tested : After-next_seen-next → Else-task-gt127
+tested c = (sized c).before.before.before.before.before
+
+abbrev looped : After-next_seen-next → At-loop-i
+looped c = (tested c).before.before.before.before.before
+
+abbrev begun : After-next_seen-next → Start
+begun c = (looped c).before.before.before
+
+-- the task looked at
+abbrev task-at : After-next_seen-next → ℕ
+task-at c = get_or (begun c).args.t1.order (looped c).loop.i 0
+
+-- what the look says of it
+sees :
+    (c : After-next_seen-next) → SeenAs (parts_of (begun c).args.t1) (task-at c) c.next_seen-next.result
+sees c =
+    let b = begun c in
+    let run = b.args.t1 in
+    let own = record_of run (task-at c) in
+    let sizes = b.good.0.1.1.0.1.1.1.1.1.1.1.0.1.0.1 in
+    let cells = b.good.0.1.1.0.1.1.1.1.1.1.1.1.0.1.0.1 in
+    let size = (sized c).row-size in
+    let fits : size.result ≡ length (body_of (list_of run.tables) own.body) =
+    size.ensures.0 ∙ body_size_is run.tables own.body sizes cells in
+    let cell = c.cell_of-at in
+    c.next_seen-next.ensures (parts_of run) (omega (arith, (tested c).if3.false)) refl fits
+    (λ inside.
+    let body : own.body < 32 = size.ensures.2 (omega (arith, inside)) in
+    ap (λ k. (get_or run.tables.cells k blank_cell).instruction)
+    (cell.ensures.1 body (omega (arith, inside, size.ensures.1)))
+    ∙ instruction_is run.tables own.body sizes cells own.pc (omega (arith, inside, fits)) blank_cell)
+
+pub loop-i-init : goal.loop-i-init
+loop-i-init c =
+    let a = c.args in
+    (found_none a.run a.workers _ _, search rules, search rules)
+
+pub returns-then-run-i : goal.returns-then-run-i
+returns-then-run-i c =
+    let a = c.args in
+    let l = c.loop-i in
+    found_last a.run a.workers l.kinds l.tasks l.invariant.1 l.invariant.2 l.count l.i l.invariant.0 (λ s. c.if-run-i.true)
+
+pub returns-then-workers-count : goal.returns-then-workers-count
+returns-then-workers-count c =
+    let a = c.args in
+    let l = c.loop-i in
+    found_enough a.run a.workers l.kinds l.tasks l.invariant.1 l.invariant.2 l.count l.i l.invariant.0 c.if-workers-count.true
+
+pub loop-i-preserved-then-task-gt127 : goal.loop-i-preserved-then-task-gt127
+loop-i-preserved-then-task-gt127 c =
+    let a = c.args in
+    let l = c.loop-i in (
+      found_held a.run a.workers l.kinds l.tasks l.invariant.1 l.invariant.2 l.count l.i l.invariant.0
+          c.if-run-i.false
+          (λ s.
+          let below = task_below a.run a.workers l.kinds l.tasks l.invariant.1 l.invariant.2 l.count l.i l.invariant.0
+          c.if-run-i.false s in
+          let bad : ⊥ = omega (arith, below, c.if-task-gt127.true) in
+          absurd bad)
+          c.loop-i-test.true,
+      l.invariant.1,
+      l.invariant.2,
+    )
+
+pub loop-i-preserved-in-Held : goal.loop-i-preserved-in-Held
+loop-i-preserved-in-Held c =
+    let a = (begun (goal.at.loop-i-preserved-in-Held c).After-next_seen-next).args in
+    let l = (looped (goal.at.loop-i-preserved-in-Held c).After-next_seen-next).loop in (
+      found_held a.t1 a.workers l.kinds l.tasks l.inv.1 l.inv.2 l.count l.i l.inv.0
+          (tested (goal.at.loop-i-preserved-in-Held c).After-next_seen-next).before.before.before.if1.false
+          (subst (SeenAs (parts_of a.t1) (task-at (goal.at.loop-i-preserved-in-Held c).After-next_seen-next)) c.in-Held.is (sees (goal.at.loop-i-preserved-in-Held c).After-next_seen-next))
+          (tested (goal.at.loop-i-preserved-in-Held c).After-next_seen-next).before.before.before.before.loop-test.true,
+      l.inv.1,
+      l.inv.2,
+    )
+
+pub loop-i-preserved : goal.loop-i-preserved
+loop-i-preserved c =
+    let a = (begun (goal.at.loop-i-preserved c).After-next_seen-next).args in
+    let l = (looped (goal.at.loop-i-preserved c).After-next_seen-next).loop in
+    let kind = c.in-Ready.kind in (
+      found_ready a.t1 a.workers l.kinds l.tasks l.inv.1 l.inv.2 l.count l.i l.inv.0
+          (tested (goal.at.loop-i-preserved c).After-next_seen-next).before.before.before.if1.false kind
+          (subst (SeenAs (parts_of a.t1) (task-at (goal.at.loop-i-preserved c).After-next_seen-next)) c.in-Ready.is (sees (goal.at.loop-i-preserved c).After-next_seen-next))
+          (tested (goal.at.loop-i-preserved c).After-next_seen-next).before.before.before.before.loop-test.true (tested (goal.at.loop-i-preserved c).After-next_seen-next).before.before.if2.false,
+      search rules,
+      search rules,
+    )
+
+pub returns : goal.returns
+returns c =
+    let a = c.args in
+    let l = c.loop-i in
+    found_last a.run a.workers l.kinds l.tasks l.invariant.1 l.invariant.2 l.count l.i l.invariant.0
+    (λ s. omega (arith, s.left, c.loop-i-test.false))

@@ -5,8 +5,11 @@
 
 ghost use Rattle.std.specs.Prelude.{◌+◌, ◌≤◌, length};
 
-use libc::STDOUT_FILENO;
+use host_files::fill;
 use runtime::Run;
+use std::env::Env;
+use std::fs::{File, Files};
+use std::io::Read;
 
 mod asks;
 mod bill;
@@ -106,28 +109,35 @@ fn put_cases(bytes: &[u8], out: &mut [u8; 4096]) -> usize {
     o
 }
 
-// Whether a file has more bytes.
-fn more(file: i32) -> bool {
-    let mut byte = [0u8; 1];
-    0 < io::read_full(file, &mut byte)
-}
-
-fn main() {
-    let mut name = io::buffer();
-    let length = os::arg(1, &mut name);
-    let file = os::open_read(&name[..length]);
-    if file < 0 {
-        io::write_all(STDOUT_FILENO, b"bad file\n");
-        return;
-    }
+// The cases of a file that is open.
+fn replay_open<F: Read>(file: &mut F) {
     let mut bytes = io::large_buffer();
-    let n = io::read_full(file, &mut bytes);
-    if more(file) {
-        io::write_all(STDOUT_FILENO, b"bad file\n");
+    let n = fill(file, &mut bytes);
+    let mut more = [0u8; 1];
+    if 0 < fill(file, &mut more) {
+        text::bad_file();
         return;
     }
-    libc::close(file);
     let mut out = io::buffer();
     let filled = put_cases(&bytes[..n], &mut out);
     text::flush(&out, filled);
+}
+
+// The cases of the file of a name.
+fn replay_file<R: Files>(rt: &R, name: &[u8]) {
+    match str::from_utf8(name) {
+        Err(_) => text::bad_file(),
+        Ok(path) => match File::open(rt, path) {
+            Err(_) => text::bad_file(),
+            Ok(mut file) => replay_open(&mut file),
+        },
+    }
+}
+
+fn main(rt: HostRuntime) {
+    let mut name = io::buffer();
+    match rt.arg(1, &mut name) {
+        Ok(n) => replay_file(&rt, &name[..n]),
+        Err(_) => text::bad_file(),
+    }
 }

@@ -1,6 +1,8 @@
 // Text for standard output, gathered in a buffer of which `at` places are filled; a full buffer is written out. Each
 // function gives how many are filled behind it.
-use libc::STDOUT_FILENO;
+
+// Standard output's number.
+const STDOUT: i32 = 1;
 
 // One byte.
 pub fn put(out: &mut [u8; 4096], at: usize, byte: u8) -> usize {
@@ -8,7 +10,7 @@ pub fn put(out: &mut [u8; 4096], at: usize, byte: u8) -> usize {
         out[at] = byte;
         return at + 1;
     }
-    io::write_all(STDOUT_FILENO, out);
+    io::write_all(STDOUT, out);
     out[0] = byte;
     1
 }
@@ -51,11 +53,16 @@ pub fn end_line(out: &mut [u8; 4096], at: usize) -> usize {
 
 fn write_front(out: &[u8], n: usize) {
     if n <= out.len() {
-        io::write_all(STDOUT_FILENO, &out[..n]);
+        io::write_all(STDOUT, &out[..n]);
     }
 }
 
 // Writes what is gathered.
 pub fn flush(out: &[u8; 4096], at: usize) {
     write_front(out, at);
+}
+
+// The line of a file that can't be read whole, or is too long.
+pub fn bad_file() {
+    io::write_all(STDOUT, b"bad file\n");
 }

@@ -8,11 +8,15 @@ ghost use Rattle.runtime.specs.Asked.{open_number};
 ghost use Rattle.coordinator.specs.Files.{number_of};
 
 use host_files::{FileRead, LIBRARY_ROOM, LIST_ROOM, read_file, size_of};
-use libc::{STDIN_FILENO, STDOUT_FILENO};
 use runtime::{OpenAnswer, Run};
+use std::fs::Files;
+use std::io::Read;
 use tasklist::Refusal;
 use transcript::Fed;
 use wording::Pending;
+
+// Standard output's number.
+const STDOUT: i32 = 1;
 
 // A turn of the loop: the run and the pending byte after a piece of the input, and whether there was one.
 #[derive(Clone, Copy)]
@@ -43,10 +47,9 @@ fn fed_whole(run: Run, pending: Pending, piece: &[u8], out: &mut [u8]) -> Fed
 }
 
 // Reads a piece of the input, makes its calls and prints their lines. A read that fails counts as the input's end.
-fn take_turn(run: Run, pending: Pending) -> Turn {
+fn take_turn<I: Read>(input: &mut I, run: Run, pending: Pending) -> Turn {
     let mut piece = [0u8; 511];
-    let got = libc::read(STDIN_FILENO, &mut piece);
-    let n = io::count(got, &piece);
+    let n = input.read(&mut piece).unwrap_or(0);
     if n == 0 {
         return Turn {
             run,
@@ -57,7 +60,7 @@ fn take_turn(run: Run, pending: Pending) -> Turn {
     let mut out = [0u8; 1024];
     let fed = fed_whole(run, pending, &piece[..n], &mut out);
     let wrote = fed.wrote;
-    io::write_all(STDOUT_FILENO, &out[..wrote]);
+    io::write_all(STDOUT, &out[..wrote]);
     let next = fed.run;
     let rest = fed.pending;
     Turn {
@@ -71,19 +74,19 @@ fn take_turn(run: Run, pending: Pending) -> Turn {
 fn finish(run: Run, pending: Pending) {
     let mut out = [0u8; 1024];
     let half = wording::half_line(pending, &mut out);
-    io::write_all(STDOUT_FILENO, &out[..half]);
+    io::write_all(STDOUT, &out[..half]);
     let rest = wording::closing_lines(run, &mut out);
-    io::write_all(STDOUT_FILENO, &out[..rest]);
+    io::write_all(STDOUT, &out[..rest]);
 }
 
 // The whole input, piece by piece. A proved loop has to end, and nothing says that the input does: it counts down from a
 // number of pieces that no input has.
-fn serve(run: Run) {
+fn serve<I: Read>(input: &mut I, run: Run) {
     let mut turns = u64::MAX;
     let mut r = run;
     let mut pending = Pending::Nothing;
     while turns > 0 {
-        let t = take_turn(r, pending);
+        let t = take_turn(input, r, pending);
         r = t.run;
         pending = t.pending;
         if !t.more {
@@ -94,21 +97,27 @@ fn serve(run: Run) {
     finish(r, pending);
 }
 
-fn main() {
+// The files of the folder that it runs in, and the calls of an input.
+fn coordinate<R: Files, I: Read>(rt: &R, input: &mut I) {
     let mut jobs = [0u8; LIST_ROOM];
-    let list = read_file(b"jobs.bin", &mut jobs);
+    let list = read_file(rt, b"jobs.bin", &mut jobs);
     let listed = size_of(list);
     let mut numbers = [0u8; LIBRARY_ROOM];
-    let count = size_of(read_file(b"library.bin", &mut numbers));
+    let count = size_of(read_file(rt, b"library.bin", &mut numbers));
     let opened = wording::open_files(&jobs[..listed], &numbers[..count]);
     let answered = opened.answer;
     let answer = answer_of(list, answered);
     if wording::open_number(answer) == 0 {
         let run = opened.run;
-        serve(run);
+        serve(input, run);
         return;
     }
     let mut out = [0u8; 16];
     let n = wording::open_line(answer, &mut out);
-    io::write_all(STDOUT_FILENO, &out[..n]);
+    io::write_all(STDOUT, &out[..n]);
+}
+
+fn main(rt: HostRuntime) {
+    let mut input = rt.stdin();
+    coordinate(&rt, &mut input);
 }

@@ -3,6 +3,10 @@
 // the list layer alone.
 #![tactic(auto)]
 
+use host_files::{LIST_ROOM, fill};
+use std::env::{Env, FillError};
+use std::fs::{File, Files};
+use std::io::Read;
 use tasklist::Checked;
 
 mod list;
@@ -24,27 +28,30 @@ fn explain(bytes: &[u8]) {
     }
 }
 
-// Explains the file of a name. The buffer holds one byte more than the longest list, so that bytes left over show. A
+// Explains a file that is open. The buffer holds one byte more than the longest list, so that bytes left over show. A
 // short count is the file's end only if reading on gives no error.
-fn explain_file(name: &[u8]) {
+fn explain_open<F: Read>(file: &mut F) {
+    let mut bytes = [0u8; LIST_ROOM];
+    let n = fill(file, &mut bytes);
+    let mut more = [0u8; 1];
+    match file.read(&mut more) {
+        Err(_) => say(b"this file can't be read\n"),
+        Ok(_) => explain(&bytes[..n]),
+    }
+}
+
+// Explains the file of a name.
+fn explain_file<R: Files>(rt: &R, name: &[u8]) {
     say(b"# ");
     say(name);
     say(b"\n");
-    let mut bytes = [0u8; 4806];
-    let file = os::open_read(name);
-    if file < 0 {
-        say(b"this file can't be opened\n");
-        return;
+    match str::from_utf8(name) {
+        Err(_) => say(b"this file can't be opened\n"),
+        Ok(path) => match File::open(rt, path) {
+            Err(_) => say(b"this file can't be opened\n"),
+            Ok(mut file) => explain_open(&mut file),
+        },
     }
-    let n = io::read_full(file, &mut bytes);
-    let mut more = [0u8; 1];
-    let got = libc::read(file, &mut more);
-    libc::close(file);
-    if got < 0 {
-        say(b"this file can't be read\n");
-        return;
-    }
-    explain(&bytes[..n]);
 }
 
 // Whether an argument is --help.
@@ -71,20 +78,24 @@ fn usage() {
     say(b"for a refused list, the refusal and the byte.\n");
 }
 
-fn main() {
-    let count = os::arg_count();
-    if count < 2 {
-        usage();
-    }
-    let mut i = 1;
-    while i < count {
+fn main(rt: HostRuntime) {
+    for i in 1..usize::MAX {
         let mut name = io::buffer();
-        let n = os::arg(i, &mut name);
-        if is_help(&name[..n]) {
-            usage();
-        } else {
-            explain_file(&name[..n]);
+        match rt.arg(i, &mut name) {
+            Ok(n) => {
+                if is_help(&name[..n]) {
+                    usage();
+                } else {
+                    explain_file(&rt, &name[..n]);
+                }
+            }
+            Err(FillError::TooLong) => say(b"this file can't be opened\n"),
+            Err(FillError::NotPresent) => {
+                if i == 1 {
+                    usage();
+                }
+                break;
+            }
         }
-        i += 1;
     }
 }

@@ -1,13 +1,15 @@
 // Words, numbers and instructions on standard output.
-use libc::STDOUT_FILENO;
 use tasklist::{Instruction, Line};
 
+// Standard output's number.
+const STDOUT: i32 = 1;
+
 pub fn say(text: &[u8]) {
-    io::write_all(STDOUT_FILENO, text);
+    io::write_all(STDOUT, text);
 }
 
 pub fn say_number(n: usize) {
-    io::print_decimal(STDOUT_FILENO, n as u64);
+    io::print_decimal(STDOUT, n as u64);
 }
 
 // A word and a number behind it.

@@ -1,8 +1,11 @@
 // The files that the programs for a host read: jobs.bin and library.bin, each from its start up to its end or the buffer's.
 #![tactic(auto)]
 
-ghost use Rattle.std.specs.Prelude.{◌≡◌};
+ghost use Rattle.std.specs.Prelude.{◌≡◌, ◌≤◌, length};
 ghost use Rattle.host_files.specs.Files.{size_of, Within};
+
+use std::fs::{File, Files};
+use std::io::Read;
 
 // One byte more than the longest list and than the longest library, so that a longer file shows.
 pub const LIST_ROOM: usize = 4806;
@@ -19,35 +22,54 @@ pub enum FileRead {
 }
 
 // Reads a file that is open, up to its end or the buffer's.
-fn read_open(file: i32, buf: &mut [u8]) -> FileRead
+fn read_open<F: Read>(file: &mut F, buf: &mut [u8]) -> FileRead
     ensures { Within result buf.new }
 {
     let mut done = 0;
     while done < buf.len() {
-        let got = libc::read(file, &mut buf[done..]);
-        if got < 0 {
-            return FileRead::Unreadable;
+        match file.read(&mut buf[done..]) {
+            Err(_) => return FileRead::Unreadable,
+            Ok(n) => {
+                if n == 0 {
+                    return FileRead::Bytes(done);
+                }
+                done += n;
+            }
         }
-        let n = io::count(got, &buf[done..]);
-        if n == 0 {
-            return FileRead::Bytes(done);
-        }
-        done += n;
     }
     FileRead::Bytes(done)
 }
 
-// Reads the file of a name from its start.
-pub fn read_file(name: &[u8], buf: &mut [u8]) -> FileRead
+// Reads the file of a name from its start. A name that is no text names no file.
+pub fn read_file<R: Files>(rt: &R, name: &[u8], buf: &mut [u8]) -> FileRead
     ensures { Within result buf.new }
 {
-    let file = os::open_read(name);
-    if file < 0 {
-        return FileRead::Unreadable;
+    match str::from_utf8(name) {
+        Err(_) => FileRead::Unreadable,
+        Ok(path) => match File::open(rt, path) {
+            Err(_) => FileRead::Unreadable,
+            Ok(mut file) => read_open(&mut file, buf),
+        },
     }
-    let read = read_open(file, buf);
-    libc::close(file);
-    read
+}
+
+// Reads into a buffer until it is full, the file ends or a read fails, and returns how many bytes that are.
+pub fn fill<F: Read>(file: &mut F, buf: &mut [u8]) -> usize
+    ensures { result ≤ length buf.new }
+{
+    let mut filled = 0;
+    while filled < buf.len() {
+        match file.read(&mut buf[filled..]) {
+            Err(_) => return filled,
+            Ok(n) => {
+                if n == 0 {
+                    return filled;
+                }
+                filled += n;
+            }
+        }
+    }
+    filled
 }
 
 // "an unreadable file counts as empty"

@@ -1,52 +1,63 @@
 // Checks job lists: one line for each file named, its task count or `refused N`; `refused 1` too where it can't be read.
 #![tactic(auto)]
 
-use libc::STDOUT_FILENO;
+use host_files::{LIST_ROOM, fill};
+use std::env::{Env, FillError};
+use std::fs::{File, Files};
+use std::io::Read;
 use tasklist::{Checked, Refusal};
+
+// Standard output's number.
+const STDOUT: i32 = 1;
 
 fn print(answer: Checked) {
     match answer {
         Checked::Count(n) => {
-            io::print_decimal(STDOUT_FILENO, n as u64);
+            io::print_decimal(STDOUT, n as u64);
         }
         Checked::Refused(refusal) => {
-            io::write_all(STDOUT_FILENO, b"refused ");
-            io::print_decimal(STDOUT_FILENO, tasklist::refusal_number(refusal) as u64);
+            io::write_all(STDOUT, b"refused ");
+            io::print_decimal(STDOUT, tasklist::refusal_number(refusal) as u64);
         }
     }
-    io::write_all(STDOUT_FILENO, b"\n");
+    io::write_all(STDOUT, b"\n");
 }
 
-// Checks the file of a name. The buffer holds one byte more than the longest list, so that bytes left over show. A short
+// Checks a file that is open. The buffer holds one byte more than the longest list, so that bytes left over show. A short
 // count is the file's end only if reading on gives no error.
-fn check_file(name: &[u8]) {
-    let mut bytes = [0u8; 4806];
-    let file = os::open_read(name);
-    if file < 0 {
-        print(Checked::Refused(Refusal::Incomplete));
-        return;
-    }
-    let n = io::read_full(file, &mut bytes);
+fn check_open<F: Read>(file: &mut F) -> Checked {
+    let mut bytes = [0u8; LIST_ROOM];
+    let n = fill(file, &mut bytes);
     let mut more = [0u8; 1];
-    let got = libc::read(file, &mut more);
-    libc::close(file);
-    if got < 0 {
-        print(Checked::Refused(Refusal::Incomplete));
-        return;
+    match file.read(&mut more) {
+        Err(_) => Checked::Refused(Refusal::Incomplete),
+        Ok(_) => reader::check(&bytes[..n]),
     }
-    print(reader::check(&bytes[..n]));
 }
 
-fn main() {
-    let count = os::arg_count();
-    if count < 2 {
-        io::write_all(STDOUT_FILENO, b"usage: listcheck FILE..\n");
+// Checks the file of a name.
+fn check_file<R: Files>(rt: &R, name: &[u8]) -> Checked {
+    match str::from_utf8(name) {
+        Err(_) => Checked::Refused(Refusal::Incomplete),
+        Ok(path) => match File::open(rt, path) {
+            Err(_) => Checked::Refused(Refusal::Incomplete),
+            Ok(mut file) => check_open(&mut file),
+        },
     }
-    let mut i = 1;
-    while i < count {
+}
+
+fn main(rt: HostRuntime) {
+    for i in 1..usize::MAX {
         let mut name = io::buffer();
-        let n = os::arg(i, &mut name);
-        check_file(&name[..n]);
-        i += 1;
+        match rt.arg(i, &mut name) {
+            Ok(n) => print(check_file(&rt, &name[..n])),
+            Err(FillError::TooLong) => print(Checked::Refused(Refusal::Incomplete)),
+            Err(FillError::NotPresent) => {
+                if i == 1 {
+                    io::write_all(STDOUT, b"usage: listcheck FILE..\n");
+                }
+                break;
+            }
+        }
     }
 }

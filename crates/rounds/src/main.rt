@@ -3,9 +3,12 @@
 #![tactic(auto)]
 
 use host_files::{FileRead, LIBRARY_ROOM, LIST_ROOM, read_file, size_of};
-use libc::STDOUT_FILENO;
 use runtime::OpenAnswer;
+use std::fs::Files;
 use tasklist::Refusal;
+
+// Standard output's number.
+const STDOUT: i32 = 1;
 
 // The line of a jobs.bin that can't be read, as the coordinator's.
 fn refuse() {
@@ -14,24 +17,29 @@ fn refuse() {
         refusal: Refusal::Incomplete,
     };
     let n = wording::open_line(answer, &mut out);
-    io::write_all(STDOUT_FILENO, &out[..n]);
+    io::write_all(STDOUT, &out[..n]);
 }
 
 // The lines for the bytes of the two files.
 fn report(jobs: &[u8], numbers: &[u8]) {
     let mut out = [0u8; host_rounds::ROOM];
     let n = host_rounds::rounds_lines(jobs, numbers, &mut out);
-    io::write_all(STDOUT_FILENO, &out[..n]);
+    io::write_all(STDOUT, &out[..n]);
 }
 
-fn main() {
+// The files of the folder that it runs in.
+fn run<R: Files>(rt: &R) {
     let mut jobs = [0u8; LIST_ROOM];
-    let list = read_file(b"jobs.bin", &mut jobs);
+    let list = read_file(rt, b"jobs.bin", &mut jobs);
     let listed = size_of(list);
     let mut numbers = [0u8; LIBRARY_ROOM];
-    let count = size_of(read_file(b"library.bin", &mut numbers));
+    let count = size_of(read_file(rt, b"library.bin", &mut numbers));
     match list {
         FileRead::Unreadable => refuse(),
         FileRead::Bytes(_) => report(&jobs[..listed], &numbers[..count]),
     }
+}
+
+fn main(rt: HostRuntime) {
+    run(&rt);
 }

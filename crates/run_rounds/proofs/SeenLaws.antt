@@ -6,8 +6,6 @@ use mathlib.Core.List.{List, [], ◌∷◌}
 use mathlib.Core.Bool.{Bool, true, false, cond}
 use lib.Dec.{eqb}
 use lib.ListN.{get_or}
-use types.Run.{OneOf, miss}
-use denote.Enum.Declared.{tag_of}
 use Rattle.tasklist.specs.declared.Instruction.{Instruction}
 use Rattle.tasklist.specs.Encode.{instruction_fields}
 use Rattle.tasklist.specs.TaskList.{instruction_of}
@@ -21,7 +19,6 @@ use Rattle.semantics.specs.Turns.{next_call}
 use Rattle.model_rounds.specs.Rounds.{is_accepted, ready}
 use Rattle.plans.specs.declared.StepPlan.{StepPlan}
 use Rattle.plans.specs.declared.StepPlan.TheVariants as Planned
-use Rattle.plans.specs.contracts.StepPlan.{the_type as the_plan}
 use Rattle.plans.specs.View.{Parts, model, context_of, SoundRun, record_of}
 use Rattle.plans.specs.Calls.{call_of, decided}
 use Rattle.plans.specs.Steps.{planned, PlansIn}
@@ -39,8 +36,8 @@ use Rattle.run_rounds.specs.declared.Seen.TheVariants.{Held, Ready}
 use Rattle.run_rounds.specs.Looking.{seen_by, SeenAs, SeenIn}
 
 -- a plan that is none of the first kind is not held back
-not_held : (p : StepPlan) → OneOf (1 ∷ 2 ∷ 3 ∷ 4 ∷ 5 ∷ 6 ∷ []) (tag_of the_plan p) → holds_back p ≡ false
-not_held (Planned.Held k) h = absurd (miss (1 ∷ 2 ∷ 3 ∷ 4 ∷ 5 ∷ 6 ∷ []) 0 tt h)
+not_held : (p : StepPlan) → ((k : CallRefusal) → p ≡ Planned.Held k → ⊥) → holds_back p ≡ false
+not_held (Planned.Held k) h = absurd (h k refl)
 not_held (Planned.Fault k) h = refl
 not_held (Planned.Assign a v) h = refl
 not_held (Planned.Pass k) h = refl
@@ -148,7 +145,7 @@ module _ (order modes memory : List ℕ) (left : ℕ) (own : Record) (size : ℕ
             ap (λ a. is_accepted (decided (from run) a n)) is_step ∙ ap is_accepted h.1
             ∙ ap (λ x. is_accepted (planned (from run) n h.0 x)) q)
 
-        pub free_seen : OneOf (1 ∷ 2 ∷ 3 ∷ 4 ∷ 5 ∷ 6 ∷ []) (tag_of the_plan p) → Sees (Ready kind)
+        pub free_seen : ((k : CallRefusal) → p ≡ Planned.Held k → ⊥) → Sees (Ready kind)
         unfolding is_accepted
         free_seen others run below same fits at =
             sees_ready (from run) n below size own same fits kind is

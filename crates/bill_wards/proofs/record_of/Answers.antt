@@ -3,7 +3,6 @@ use Rattle.bill_wards.proofs.TurnLaws.{record_read}
 use Rattle.std.proofs.Common.{rules}
 use Rattle.bill_wards.proofs.record_of.Goals as goal
 
-record_of_spec = tie.close (tie.spec cast-task-record task-record-requires returns)
 
 pub returns : goal.returns
 returns c =

@@ -7,7 +7,6 @@ use Rattle.bill_wards.proofs.BlockLaws.{weighs_none, weighs_one}
 use Rattle.bill_wards.proofs.TurnLaws.{tasks_whole}
 use Rattle.bill_wards.proofs.task_weight.Goals as goal
 
-record-of-requires c κs = search rules
 
 pub returns-then-n-ge-RECORDS : goal.returns-then-n-ge-RECORDS
 returns-then-n-ge-RECORDS c =

@@ -3,7 +3,6 @@ use Rattle.std.proofs.Common.{arith, rules}
 use Rattle.bill_wards.proofs.TurnLaws.{turned_inside, turned_blank, turned_ward}
 use Rattle.bill_wards.proofs.turned.Goals as goal
 
-record-of-requires c κs = search rules
 
 pub returns-then-n-walk : goal.returns-then-n-walk
 returns-then-n-walk c =
@@ -22,4 +21,4 @@ returns c =
     let weight = c.block_weight-weight in
     turned_ward c.args.run c.args.walk c.args.n c.requires.0 c.requires.1
     c.if-n-walk.false own.result own.ensures
-    c.if-own-eq-NEVER_MADE.false size.result weight.result size.ensures.0 weight.ensures
+    c.if-own-eq-NEVER_MADE.false size.result weight.result size.ensures.sound weight.ensures

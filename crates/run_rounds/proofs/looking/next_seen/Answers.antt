@@ -56,4 +56,4 @@ returns-in_default c =
     let a = c.args in
     free_seen a.order.now a.modes.now a.memory a.left a.own a.size a.instruction a.task c.next_kind-kind.result
     c.next_kind-kind.ensures c.if-kind-eq0.false c.if-kind-eq2.false (place_at (goal.at.returns-in_default c).In-At) (there (goal.at.returns-in_default c).In-At) c.code_of.result
-    c.code_of.ensures.0 c.plan_of-plan.result c.plan_of-plan.ensures c.in_default.in_default-own.keys2
+    c.code_of.ensures.0 c.plan_of-plan.result c.plan_of-plan.ensures c.in_default.not-Held

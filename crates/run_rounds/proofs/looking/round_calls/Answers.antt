@@ -13,40 +13,26 @@ use Rattle.runtime.specs.View.{parts_of}
 use Rattle.runtime.specs.Parts.{record_of}
 use Rattle.run_rounds.specs.Looking.{SeenAs}
 use Rattle.run_rounds.proofs.BatchLaws.{Found, found_none, found_last, found_enough, task_below, found_held, found_ready}
-use Rattle.run_rounds.proofs.looking.round_calls.Goals.{After-next_seen-next, After-row_size-size, At-loop-i, Else-task-gt127, Start}
+use Rattle.run_rounds.proofs.looking.round_calls.Goals.{After-next_seen-next}
 use Rattle.run_rounds.proofs.looking.round_calls.Goals as goal
-
--- where the loop stands at a look, and where the function began
-abbrev sized : After-next_seen-next → After-row_size-size
-sized c = c.before.before.before.before.before.before
-
-abbrev tested : After-next_seen-next → Else-task-gt127
-tested c = (sized c).before.before.before.before.before
-
-abbrev looped : After-next_seen-next → At-loop-i
-looped c = (tested c).before.before.before.before.before
-
-abbrev begun : After-next_seen-next → Start
-begun c = (looped c).before.before.before
 
 -- the task looked at
 abbrev task-at : After-next_seen-next → ℕ
-task-at c = get_or (begun c).args.t1.order (looped c).loop.i 0
+task-at c = get_or c.args.run.order c.loop-i.i 0
 
 -- what the look says of it
 sees :
-    (c : After-next_seen-next) → SeenAs (parts_of (begun c).args.t1) (task-at c) c.next_seen-next.result
+    (c : After-next_seen-next) → SeenAs (parts_of c.args.run) (task-at c) c.next_seen-next.result
 sees c =
-    let b = begun c in
-    let run = b.args.t1 in
+    let run = c.args.run in
     let own = record_of run (task-at c) in
-    let sizes = b.good.0.1.1.0.1.1.1.1.1.1.1.0.1.0.1 in
-    let cells = b.good.0.1.1.0.1.1.1.1.1.1.1.1.0.1.0.1 in
-    let size = (sized c).row-size in
+    let sizes = c.well_formed.0.1.1.0.1.1.1.1.1.1.1.0.1.0.1 in
+    let cells = c.well_formed.0.1.1.0.1.1.1.1.1.1.1.1.0.1.0.1 in
+    let size = c.row_size-size in
     let fits : size.result ≡ length (body_of (list_of run.tables) own.body) =
     size.ensures.0 ∙ body_size_is run.tables own.body sizes cells in
     let cell = c.cell_of-at in
-    c.next_seen-next.ensures (parts_of run) (omega (arith, (tested c).if3.false)) refl fits
+    c.next_seen-next.ensures (parts_of run) (omega (arith, c.if-task-gt127.false)) refl fits
     (λ inside.
     let body : own.body < 32 = size.ensures.2 (omega (arith, inside)) in
     ap (λ k. (get_or run.tables.cells k blank_cell).instruction)
@@ -88,25 +74,25 @@ loop-i-preserved-then-task-gt127 c =
 
 pub loop-i-preserved-in-Held : goal.loop-i-preserved-in-Held
 loop-i-preserved-in-Held c =
-    let a = (begun (goal.at.loop-i-preserved-in-Held c).After-next_seen-next).args in
-    let l = (looped (goal.at.loop-i-preserved-in-Held c).After-next_seen-next).loop in (
-      found_held a.t1 a.workers l.kinds l.tasks l.inv.1 l.inv.2 l.count l.i l.inv.0
-          (tested (goal.at.loop-i-preserved-in-Held c).After-next_seen-next).before.before.before.if1.false
-          (subst (SeenAs (parts_of a.t1) (task-at (goal.at.loop-i-preserved-in-Held c).After-next_seen-next)) c.in-Held.is (sees (goal.at.loop-i-preserved-in-Held c).After-next_seen-next))
-          (tested (goal.at.loop-i-preserved-in-Held c).After-next_seen-next).before.before.before.before.loop-test.true,
-      l.inv.1,
-      l.inv.2,
+    let a = c.args in
+    let l = c.loop-i in (
+      found_held a.run a.workers l.kinds l.tasks l.invariant.1 l.invariant.2 l.count l.i l.invariant.0
+          c.if-run-i.false
+          (subst (SeenAs (parts_of a.run) (task-at (goal.at.loop-i-preserved-in-Held c).After-next_seen-next)) c.in-Held.is (sees (goal.at.loop-i-preserved-in-Held c).After-next_seen-next))
+          c.loop-i-test.true,
+      l.invariant.1,
+      l.invariant.2,
     )
 
 pub loop-i-preserved : goal.loop-i-preserved
 loop-i-preserved c =
-    let a = (begun (goal.at.loop-i-preserved c).After-next_seen-next).args in
-    let l = (looped (goal.at.loop-i-preserved c).After-next_seen-next).loop in
+    let a = c.args in
+    let l = c.loop-i in
     let kind = c.in-Ready.kind in (
-      found_ready a.t1 a.workers l.kinds l.tasks l.inv.1 l.inv.2 l.count l.i l.inv.0
-          (tested (goal.at.loop-i-preserved c).After-next_seen-next).before.before.before.if1.false kind
-          (subst (SeenAs (parts_of a.t1) (task-at (goal.at.loop-i-preserved c).After-next_seen-next)) c.in-Ready.is (sees (goal.at.loop-i-preserved c).After-next_seen-next))
-          (tested (goal.at.loop-i-preserved c).After-next_seen-next).before.before.before.before.loop-test.true (tested (goal.at.loop-i-preserved c).After-next_seen-next).before.before.if2.false,
+      found_ready a.run a.workers l.kinds l.tasks l.invariant.1 l.invariant.2 l.count l.i l.invariant.0
+          c.if-run-i.false kind
+          (subst (SeenAs (parts_of a.run) (task-at (goal.at.loop-i-preserved c).After-next_seen-next)) c.in-Ready.is (sees (goal.at.loop-i-preserved c).After-next_seen-next))
+          c.loop-i-test.true c.if-workers-count.false,
       search rules,
       search rules,
     )

@@ -1,0 +1,18 @@
+-- Assumes nothing.
+use mathlib.Core.Path.{subst}
+use Rattle.semantics.specs.Run.{fixed_weights}
+use Rattle.semantics.specs.Operations.{sequential_asked}
+use Rattle.runtime.specs.Asked.{OpenedAs}
+use Rattle.benchlib.proofs.CountLaws.{calls_told}
+use borrow.Author.Rules.{rules}
+use Rattle.benchlib.proofs.bench_sequential.Reads as reads
+use Rattle.benchlib.proofs.bench_sequential.Lts as lts
+use Rattle.sequence.proofs.sequential.Reads as sequential_reads
+use Rattle.benchlib.proofs.bench_sequential.Goals as goal
+
+pub returns : goal.returns
+returns c =
+    let a = c.args in
+    let done = c.sequential-opened in
+    calls_told a.list.now fixed_weights done.result (sequential_asked a.list.now a.memory.now fixed_weights)
+    (subst (λ ws. OpenedAs a.list.now ws (sequential_asked a.list.now a.memory.now ws) done.result) c.todays_weights-weights.ensures done.ensures)

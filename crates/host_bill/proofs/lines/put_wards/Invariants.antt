@@ -1,0 +1,14 @@
+use Prim.Native.Nat.{◌-◌}
+use mathlib.Core.Path.{◌≡◌, refl}
+use native.Mathlib.Omega.{arith}
+use Rattle.host_bill.specs.Promises.{Arrays}
+use Rattle.host_bill.proofs.LineLaws.{LinesPut, lines_none, lines_more, lines_all}
+use borrow.Author.Rules.{rules}
+use Rattle.host_bill.proofs.lines.put_wards.Given as goal
+
+abbrev pub invariant-loop-i : goal.invariant-loop-i
+invariant-loop-i l =
+    (l.count ≡ l.wards.count) × Arrays l.wards l.pence × LinesPut l.wards.numbers l.wards.weights l.pence l.count l.initial.out l.out l.stop l.i
+
+abbrev pub decreases-loop-i : goal.decreases-loop-i
+decreases-loop-i l = l.count - l.i

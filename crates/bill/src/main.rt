@@ -68,7 +68,13 @@ fn answered(list: FileRead, opened: Opened) -> Opened {
 }
 
 // The run that is billed: after the calls where there is a file of them, else the hand run's. A refusal stays.
-fn billed_run<R: Files>(rt: &R, jobs: &[u8], numbers: &[u8], opened: Opened, calls: Option<&[u8]>) -> Opened {
+fn billed_run<R: Files>(
+    rt: &R,
+    jobs: &[u8],
+    numbers: &[u8],
+    opened: Opened,
+    calls: Option<&[u8]>,
+) -> Opened {
     let answer = opened.answer;
     if 0 < wording::open_number(answer) {
         return opened;
@@ -90,7 +96,14 @@ fn print(opened: Opened, bill: u32) {
 }
 
 // Prints what is printed for the two files.
-fn report<R: Files>(rt: &R, jobs: &[u8], numbers: &[u8], list: FileRead, bill: u32, calls: Option<&[u8]>) {
+fn report<R: Files>(
+    rt: &R,
+    jobs: &[u8],
+    numbers: &[u8],
+    list: FileRead,
+    bill: u32,
+    calls: Option<&[u8]>,
+) {
     let opened = answered(list, wording::open_files(jobs, numbers));
     print(billed_run(rt, jobs, numbers, opened, calls), bill);
 }

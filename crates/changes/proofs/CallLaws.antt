@@ -2,7 +2,6 @@
 use Rattle.std.proofs.Common.{◌≡◌, ℕ, ◌+◌, ◌-◌, ◌%◌, ◌^◌, ◌<◌, ◌≤◌, Bool, true, false, List, [], ◌∷◌, length, take, set, sym, refl, ap, ◌∙◌, subst, arith, length-set, length-take}
 use native.Mathlib.Decide.{ℕ_discrete}
 use Rattle.tasklist.specs.Decode.{accepted}
-use Rattle.tasklist.specs.Accepted.{Accepted}
 use Rattle.tasklist.specs.Tables.{Holds, list_of}
 use Rattle.semantics.specs.declared.Record.{Record}
 use Rattle.semantics.specs.declared.CallRefusal.{CallRefusal}

@@ -3,7 +3,7 @@
 use Prim.Native.Nat.{ℕ, zero, suc, ◌+◌, ◌-◌, ◌*◌, ◌/◌, ◌%◌, ◌≤◌, ◌<◌}
 use mathlib.Core.Path.{◌≡◌, refl, sym, ap, ◌∙◌}
 use mathlib.Core.List.{List, [], ◌∷◌}
-use mathlib.Core.Bool.{Bool, true, false, cond}
+use mathlib.Core.Bool.{Bool, cond}
 use native.Mathlib.Omega.{arith}
 use native.Mathlib.Numerals.{add-one}
 use native.Mathlib.Nat.{div-add-mod', mod-lt, div-lt_iff_lt-mul, mul-le-mul_right, suc-mul}
@@ -15,7 +15,6 @@ use Rattle.tasklist.specs.declared.Tables.{Tables}
 use Rattle.tasklist.specs.TaskList.{body_of, instruction_of, blank_instruction, total, adds}
 use Rattle.tasklist.specs.Tables.{list_of}
 use Rattle.finding.specs.declared.Job.{Job}
-use Rattle.finding.specs.Search.{first_from}
 use Rattle.finding.specs.Jobs.{first_job, number_at, fanned, made, place_of, holder, down, numbered}
 use Rattle.finding.proofs.FirstLaws.{Failed, failed_none, failed_next, failed_passes, failed_all}
 

@@ -14,7 +14,6 @@ use Rattle.tasklist.specs.declared.Reading.{Reading}
 use Rattle.tasklist.specs.declared.Refusal.{Refusal}
 use Rattle.tasklist.specs.declared.Checked.TheVariants.{Count, Refused}
 use Rattle.tasklist.specs.Decode.{Decoded, refused, accepted, decode}
-use Rattle.tasklist.specs.Accepted.{Accepted}
 use Rattle.tasklist.specs.Tables.{Holds, list_of}
 use Rattle.tasklist.specs.Answers.{refuses, gives, refusal_number, checked, check_answer, Tabled, ReadAs}
 use Rattle.tasklist.proofs.Guarantees.{accepted_list}

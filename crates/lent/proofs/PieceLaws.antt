@@ -10,7 +10,7 @@ use lib.ListN.{length, take, drop, get_or, set}
 use lib.Seq.{drop-cons, take-suc-set, get_or-take, take_all}
 use native.Mathlib.Nat.{eq-or-lt_of_le}
 use Rattle.lent.specs.declared.Piece.{Piece}
-use Rattle.lent.specs.Pieces.{rest_at, rest, said, Facing, turns_left, turns, FacedAs, NotedAs, PieceOf}
+use Rattle.lent.specs.Pieces.{rest_at, Facing, turns_left, turns, FacedAs, NotedAs, PieceOf}
 
 drop_past : (n : ℕ) (l : List ℕ) → length l ≤ n → drop n l ≡ []
 drop_past zero [] h = refl

@@ -2,24 +2,22 @@
 -- the tasks that job 0's accepted calls made: every task made above 0 is in the block of one. Assumes nothing.
 use Prim.Native.Nat.{ℕ, zero, suc, ◌+◌, ◌*◌, ◌^◌, ◌≤◌, ◌<◌}
 use mathlib.Core.Path.{◌≡◌, refl, sym, ap, subst, ◌∙◌}
-use mathlib.Core.List.{List, [], ◌∷◌, ◌++◌, map, append_assoc, append-nil}
+use mathlib.Core.List.{List, [], ◌∷◌, ◌++◌, append_assoc, append-nil}
 use mathlib.Core.Logic.{◌⊎◌, inl, inr, ◌≢◌}
 use native.Mathlib.Omega.{arith}
-use native.Mathlib.Decide.{ℕ_discrete}
 use lib.ListN.{length, get_or}
 use Rattle.tasklist.specs.TaskList.{task_count}
 use Rattle.tasklist.specs.Accepted.{Accepted}
-use Rattle.semantics.specs.Run.{Task, Run, Context, never, weight_of, task_of, initial}
+use Rattle.semantics.specs.Run.{Run, Context, never, weight_of, task_of, initial}
 use Rattle.semantics.specs.Effect.{Numbered, Effect}
 use Rattle.semantics.specs.Plan.{child_number}
 use Rattle.semantics.specs.Call.{Call, Outcome, refuse, accept, decide, charged, apply, taken, call, or_same, after, after_all}
-use Rattle.semantics.specs.Sequential.{made_by}
 use Rattle.semantics.specs.Sound.{In, limit, Sound}
 use Rattle.semantics.proofs.Order.{in_left, in_right, in_append}
-use Rattle.semantics.proofs.Apply.{numbers, touched, in_numbers, numbers_in}
+use Rattle.semantics.proofs.Apply.{numbers, in_numbers, numbers_in}
 use Rattle.semantics.proofs.Fair.{Packed}
 use Rattle.semantics.proofs.Decide.{Accepts, decide_accept}
-use Rattle.semantics.proofs.Valid.{never_state, number_above, number_below, accepted_fair, made_future, made_is_future}
+use Rattle.semantics.proofs.Valid.{never_state, number_above, accepted_fair, made_future, made_is_future}
 use Rattle.semantics.proofs.Kept.{blanks}
 use Rattle.semantics.proofs.SoundKept.{Whose, self, new, same, whose, effect_sound, self_is, new_is, same_is, sound_kept}
 use Rattle.semantics.proofs.SoundInitial.{initial_sound}

@@ -6,7 +6,6 @@ use Rattle.tasklist.specs.Accepted.{Accepted}
 use Rattle.semantics.specs.Run.{Context, weight_of, initial}
 use Rattle.semantics.specs.Call.{Call, after_all}
 use Rattle.semantics.specs.Sequential.{sequential}
-use Rattle.semantics.specs.Operations.{WeightsAccepted, Library}
 use Rattle.semantics.specs.Sound.{Sound}
 use Rattle.semantics.proofs.Guarantee.{guarantee}
 use Rattle.semantics.proofs.Sound.{sound}

@@ -1,10 +1,10 @@
 -- What the two functions come to, by what they call. Assumes nothing.
-use Prim.Native.Nat.{ℕ, zero, suc, zero-le, ◌+◌, ◌≤◌, ◌<◌}
+use Prim.Native.Nat.{ℕ, ◌≤◌}
 use mathlib.Core.Path.{◌≡◌, refl, sym, ap, subst, ◌∙◌}
-use mathlib.Core.List.{List, [], ◌∷◌, ◌++◌}
+use mathlib.Core.List.{List}
 use mathlib.Core.Bool.{Bool, true, false}
 use native.Mathlib.Omega.{arith}
-use lib.ListN.{length, take, drop}
+use lib.ListN.{length, take}
 use lib.Dec.{leb}
 use Rattle.tasklist.specs.declared.Refusal.{Refusal}
 use Rattle.tasklist.specs.declared.Refusal.TheVariants.{Incomplete, Tag, Head, Footprint, Body, Leftover, Tasks}

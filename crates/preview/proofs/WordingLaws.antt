@@ -1,8 +1,8 @@
 -- The hand run over C in the words of document 01 and request 105: "as check, then 8, library length not C", which are bytes
 -- "other than 4 × C"; "After 8: 21 wrong length", bytes other than 30, "22 a number not in 1 to 1000"; "slice too short: 17,
 -- last"; else the final entries, 4 × C bytes. Assumes nothing.
-use Prim.Native.Nat.{ℕ, ◌*◌, ◌^◌, ◌≤◌, ◌<◌}
-use mathlib.Core.Path.{◌≡◌, refl, sym, ap, ◌∙◌}
+use Prim.Native.Nat.{ℕ, ◌*◌, ◌≤◌, ◌<◌}
+use mathlib.Core.Path.{◌≡◌, refl, ap, ◌∙◌}
 use mathlib.Core.List.{List, []}
 use mathlib.Core.Bool.{true, false}
 use native.Mathlib.Omega.{arith}

@@ -1,7 +1,6 @@
 -- What a quotient comes to, by the tests of the code. Assumes nothing.
-use Rattle.std.proofs.Common.{◌≡◌, ℕ, ◌^◌, ◌<◌, ◌≤◌, ◌≢◌, refl, arith}
+use Rattle.std.proofs.Common.{◌≡◌, ℕ, ◌<◌, ◌≤◌, ◌≢◌, arith}
 use Rattle.semantics.specs.Rounding.{rounded}
-use Rattle.semantics.specs.Plan.{quotient_fault}
 use Rattle.semantics.proofs.Rounding.{zero_faults, rounded_nearest, large_faults, small_passes}
 use Rattle.records.specs.declared.Quotient.TheVariants.{Fault, Value}
 use Rattle.records.specs.Quotients.{QuotientIs}

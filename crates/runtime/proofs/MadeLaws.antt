@@ -2,11 +2,11 @@
 use Rattle.std.proofs.Common.{◌≡◌, ℕ, zero, suc, List, [], ◌∷◌, ◌++◌, sym, refl, ap, ◌∙◌, subst}
 use Rattle.semantics.specs.Run.{Context}
 use Rattle.semantics.specs.Run as Semantics
-use Rattle.semantics.specs.Plan.{Action, start, step, «end»}
+use Rattle.semantics.specs.Plan.{start, step, «end»}
 use Rattle.semantics.specs.Call.{Call, after, after_all}
 use Rattle.plans.specs.Calls.{call_of}
 use Rattle.runtime.specs.declared.Run.{Run}
-use Rattle.runtime.specs.View.{model, context_of, SoundRun}
+use Rattle.runtime.specs.View.{model, context_of}
 use Rattle.runtime.specs.Calls.{calls_of_kind, CallsMade}
 use Rattle.runtime.proofs.ViewLaws.{same_context}
 

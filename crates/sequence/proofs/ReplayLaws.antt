@@ -1,13 +1,11 @@
 -- What calls made one after the other come to, and demand 3 of the run that they leave. Assumes nothing.
-use Rattle.std.proofs.Common.{◌≡◌, ℕ, zero, suc, ◌+◌, ◌<◌, ◌≤◌, List, [], ◌∷◌, ◌++◌, length, get_or, take, drop, sym, refl, ap, ◌∙◌, subst, add-one, arith, drop-cons}
-use Rattle.tasklist.specs.TaskList.{TaskList}
+use Rattle.std.proofs.Common.{◌≡◌, ℕ, zero, suc, ◌+◌, ◌<◌, ◌≤◌, List, [], ◌∷◌, length, get_or, take, drop, sym, refl, ap, ◌∙◌, subst, add-one, arith, drop-cons}
 use Rattle.tasklist.specs.Decode.{accepted, decode}
 use Rattle.tasklist.specs.Tables.{list_of}
 use Rattle.tasklist.proofs.Guarantees.{accepted_same}
 use Rattle.semantics.specs.Run.{Context, context, initial}
 use Rattle.semantics.specs.Run as Semantics
-use Rattle.semantics.specs.Plan.{Action, start, step, «end»}
-use Rattle.semantics.specs.Call.{Call, after, after_all}
+use Rattle.semantics.specs.Call.{Call, after_all}
 use Rattle.semantics.specs.Operations.{Asked, denies, gives, with_list, open_asked}
 use Rattle.semantics.proofs.Guarantee.{Guarantee}
 use Rattle.semantics.proofs.Bytes.{guarantee_of_bytes}

@@ -12,7 +12,7 @@ use Rattle.tasklist.specs.declared.Line.{Line}
 use Rattle.semantics.specs.Run.{Task, no_modes}
 use Rattle.semantics.specs.Effect.{child}
 use Rattle.semantics.specs.Access.{Access, access_fault}
-use Rattle.semantics.specs.Footprint.{Grant, denied, granted, all_targets, merged, unless_denied, grant, child_modes, Children, none_made, all_made, with_first, children, first_register, fan_of}
+use Rattle.semantics.specs.Footprint.{Grant, denied, granted, all_targets, merged, unless_denied, grant, child_modes, none_made, all_made, with_first, children, first_register, fan_of}
 use Rattle.semantics.specs.Call.{splice}
 use Rattle.semantics.specs.Sound.{Distinct}
 use Rattle.grants.specs.declared.Granting.{Granting}

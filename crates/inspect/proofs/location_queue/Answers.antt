@@ -3,8 +3,6 @@
 use mathlib.Core.Path.{◌≡◌}
 use native.Mathlib.Omega.{arith}
 use lib.ListN.{length}
-use Rattle.tasklist.proofs.PlaceLaws.{length_lowered}
-use Rattle.semantics.specs.contracts.Record.{the_type as the_record}
 use Rattle.inspect.proofs.AskLaws.{queue_outside, queue_short, queue_put}
 use borrow.Author.Rules.{rules}
 use Rattle.inspect.proofs.location_queue.Goals as goal

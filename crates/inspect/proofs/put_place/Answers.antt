@@ -1,12 +1,10 @@
 -- One place is put, unless the mode is 0.
 -- Assumes nothing.
-use Prim.Native.Nat.{◌-◌}
 use mathlib.Core.Path.{sym, ap}
 use native.Mathlib.Omega.{arith}
 use lib.ListN.{length}
 use lib.Seq.{sets}
 use Rattle.inspect.proofs.AskLaws.{shown_none, shown_one}
-use borrow.Author.Rules.{rules}
 use Rattle.inspect.proofs.put_place.Goals as goal
 
 pub returns-then-mode-eq0 : goal.returns-then-mode-eq0

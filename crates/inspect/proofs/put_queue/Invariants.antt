@@ -1,15 +1,9 @@
-use lib.ListN.{length-take}
-use Rattle.arrays.specs.Rows.{row}
-use Prim.Native.Nat.{ℕ, ◌+◌, ◌-◌, ◌≤◌, min}
-use mathlib.Core.Path.{◌≡◌, refl, sym, ap, subst, ◌∙◌}
-use native.Mathlib.Omega.{arith}
-use native.Mathlib.Nat.{zero-add}
-use lib.ListN.{length, take, get_or}
-use lib.Seq.{sets, length-sets}
-use Rattle.tasklist.proofs.WriterLaws.{Put, put_fits, put_more, put_done, put_starts}
-use Rattle.runtime.specs.Parts.{shown, shown_at, all_shown}
-use Rattle.inspect.proofs.AskLaws.{in_order, shown_here}
-use borrow.Author.Rules.{rules}
+use Prim.Native.Nat.{◌+◌, ◌-◌, ◌≤◌, min}
+use mathlib.Core.Path.{◌≡◌}
+use lib.ListN.{length, take}
+use lib.Seq.{sets}
+use Rattle.tasklist.proofs.WriterLaws.{Put}
+use Rattle.runtime.specs.Parts.{shown_at, all_shown}
 use Rattle.inspect.proofs.put_queue.Given as goal
 
 abbrev pub invariant-loop-i : goal.invariant-loop-i

@@ -1,12 +1,8 @@
 use Prim.Native.Nat.{◌+◌, ◌-◌, ◌≤◌, min}
 use mathlib.Core.Path.{◌≡◌}
-use native.Mathlib.Omega.{arith}
-use native.Mathlib.Nat.{zero-add}
 use lib.ListN.{length, take}
 use Rattle.tasklist.proofs.WriterLaws.{rest_from}
 use Rattle.runtime.specs.Parts.{shown_at, all_shown}
-use Rattle.inspect.proofs.AskLaws.{count_more, count_done}
-use borrow.Author.Rules.{rules}
 use Rattle.inspect.proofs.queue_length.Given as goal
 
 abbrev pub invariant-loop-i : goal.invariant-loop-i

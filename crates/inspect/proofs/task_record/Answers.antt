@@ -1,10 +1,7 @@
 -- The task's record and row, whatever the run.
 -- Assumes nothing.
-use Rattle.tasklist.proofs.PlaceLaws.{length_lowered}
-use Rattle.semantics.specs.contracts.Record.{the_type as the_record}
 use Rattle.semantics.specs.Answers.{refusal_number}
 use Rattle.runtime.specs.Asked.{recorded}
-use Prim.Native.Nat.{◌-◌}
 use mathlib.Core.Path.{◌≡◌, sym}
 use native.Mathlib.Omega.{arith}
 use lib.ListN.{length}

@@ -3,8 +3,6 @@
 use mathlib.Core.Path.{◌≡◌}
 use native.Mathlib.Omega.{arith}
 use lib.ListN.{length}
-use Rattle.tasklist.proofs.PlaceLaws.{length_lowered}
-use Rattle.semantics.specs.contracts.Record.{the_type as the_record}
 use Rattle.semantics.specs.Answers.{refusal_number}
 use Rattle.ahead.specs.Ahead.{accesses_of}
 use Rattle.inspect.specs.Told.{told}

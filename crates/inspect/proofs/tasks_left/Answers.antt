@@ -1,5 +1,5 @@
 -- The order's places that hold a task, at most 128. Assumes nothing.
-use Prim.Native.Nat.{◌≤◌, min}
+use Prim.Native.Nat.{min}
 use mathlib.Core.Path.{◌≡◌, sym, ap, ◌∙◌}
 use lib.ListN.{length, length-take}
 use Rattle.plans.specs.View.{model as parts_model}

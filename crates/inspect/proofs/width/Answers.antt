@@ -1,6 +1,5 @@
 -- One place, unless the mode is 0.
 -- Assumes nothing.
-use Prim.Native.Nat.{◌-◌}
 use mathlib.Core.Path.{sym, ap}
 use lib.ListN.{length}
 use Rattle.inspect.proofs.AskLaws.{shown_none, shown_one}

@@ -1,6 +1,5 @@
 -- The piece of the input's first bytes, lent to. Assumes nothing.
 use Rattle.lent.proofs.LendLaws.{whole}
-use borrow.Author.Rules.{rules}
 use Rattle.lent.proofs.lend.Goals as goal
 
 pub returns : goal.returns

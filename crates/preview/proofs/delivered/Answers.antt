@@ -1,7 +1,6 @@
 -- By whether the bytes fit.
 -- Assumes nothing.
 use Rattle.preview.proofs.PreviewLaws.{delivers, delivers_none}
-use borrow.Author.Rules.{rules}
 use Rattle.preview.proofs.delivered.Goals as goal
 
 pub returns-then-write_numbers : goal.returns-then-write_numbers

@@ -1,7 +1,6 @@
 -- By check's two answers.
 -- Assumes nothing.
 use Rattle.preview.proofs.PreviewLaws.{check_count, check_refused}
-use borrow.Author.Rules.{rules}
 use Rattle.preview.proofs.preview_check.Goals as goal
 
 pub returns-in-Count : goal.returns-in-Count

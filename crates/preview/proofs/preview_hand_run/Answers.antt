@@ -1,7 +1,6 @@
 -- By the sequential run's answers.
 -- Assumes nothing.
 use Rattle.preview.proofs.PreviewLaws.{runs_refused, runs_unfit, runs_table, runs_weight, runs_through}
-use borrow.Author.Rules.{rules}
 use Rattle.preview.proofs.preview_hand_run.Goals as goal
 
 pub returns-in-Refused : goal.returns-in-Refused

@@ -3,7 +3,6 @@
 use mathlib.Core.Path.{sym}
 use native.Mathlib.Omega.{arith}
 use lib.Seq.{length-take-le}
-use borrow.Author.Rules.{rules}
 use Rattle.preview.proofs.ran.Goals as goal
 
 pub slice_bounds-sequential-end : goal.slice_bounds-sequential-end

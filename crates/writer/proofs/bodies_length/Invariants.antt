@@ -1,17 +1,9 @@
-use native.Mathlib.Nat.{zero-add}
 use Rattle.tasklist.specs.Encode.{joined, body_bytes}
-use Rattle.tasklist.specs.TaskList.{body_of}
-use Rattle.tasklist.proofs.PlaceLaws.{footprint_most, body_most, bodies_few}
-use Rattle.tasklist.proofs.WriterLaws.{Put, put_fits, put_more, put_done, put_starts, rest_from, rest_length, rest_none, footprint_length, body_length}
-use Rattle.tasklist.specs.Tables.{list_of, instructions}
-use lib.Seq.{sets, length-sets}
-use lib.ListN.{length, get_or, length-set}
-use mathlib.Core.List.{List, [], ◌∷◌}
-use Prim.Native.Nat.{ℕ, ◌+◌, ◌*◌, ◌-◌, ◌<◌, ◌≤◌, ◌%◌}
-use borrow.Author.Rules.{rules}
-use Rattle.tasklist.specs.declared.Tables.{Tables}
-use native.Mathlib.Omega.{arith}
-use mathlib.Core.Path.{◌≡◌, refl, sym, ap, ◌∙◌, subst}
+use Rattle.tasklist.proofs.WriterLaws.{rest_from}
+use Rattle.tasklist.specs.Tables.{list_of}
+use lib.ListN.{length}
+use Prim.Native.Nat.{◌+◌, ◌*◌, ◌-◌, ◌≤◌}
+use mathlib.Core.Path.{◌≡◌}
 use Rattle.writer.proofs.bodies_length.Given as goal
 
 abbrev pub invariant-loop-s : goal.invariant-loop-s

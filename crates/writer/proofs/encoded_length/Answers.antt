@@ -1,16 +1,8 @@
 -- The head, the footprints, the bodies.
 -- Assumes nothing.
 use Rattle.tasklist.proofs.WriterLaws.{encode_length}
-use Rattle.tasklist.proofs.PlaceLaws.{footprint_most, body_most, rows_count}
-use Rattle.tasklist.proofs.WriterLaws.{Put, put_fits, put_more, put_done, put_starts, rest_from, rest_length, rest_none, footprint_length, body_length}
-use Rattle.tasklist.specs.Tables.{list_of, instructions}
-use lib.Seq.{sets, length-sets}
-use lib.ListN.{length, get_or, length-set}
-use mathlib.Core.List.{List, [], ◌∷◌}
-use Prim.Native.Nat.{ℕ, ◌+◌, ◌*◌, ◌-◌, ◌<◌, ◌≤◌, ◌%◌}
+use Rattle.tasklist.specs.Tables.{list_of}
 use native.Mathlib.Omega.{arith}
-use mathlib.Core.Path.{◌≡◌, refl, sym, ap, ◌∙◌, subst}
-use borrow.Author.Rules.{rules}
 use Rattle.writer.proofs.encoded_length.Goals as goal
 
 pub overflow_add-result : goal.overflow_add-result

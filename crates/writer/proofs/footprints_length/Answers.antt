@@ -3,17 +3,15 @@
 use native.Mathlib.Nat.{zero-add}
 use Rattle.tasklist.specs.Encode.{joined, footprint_bytes}
 use Rattle.tasklist.specs.TaskList.{footprint_of}
-use Rattle.tasklist.proofs.PlaceLaws.{footprint_most, body_most, footprints_few}
-use Rattle.tasklist.proofs.WriterLaws.{Put, put_fits, put_more, put_done, put_starts, rest_from, rest_length, rest_none, footprint_length, body_length}
-use Rattle.tasklist.specs.Tables.{list_of, instructions}
-use lib.Seq.{sets, length-sets}
-use lib.ListN.{length, get_or, length-set}
-use mathlib.Core.List.{List, [], ◌∷◌}
-use Prim.Native.Nat.{ℕ, ◌+◌, ◌*◌, ◌-◌, ◌<◌, ◌≤◌, ◌%◌}
+use Rattle.tasklist.proofs.PlaceLaws.{footprint_most, footprints_few}
+use Rattle.tasklist.proofs.WriterLaws.{rest_from, rest_length, rest_none, footprint_length}
+use Rattle.tasklist.specs.Tables.{list_of}
+use lib.ListN.{length, get_or}
+use mathlib.Core.List.{[]}
+use Prim.Native.Nat.{◌≤◌}
 use borrow.Author.Rules.{rules}
-use Rattle.tasklist.specs.declared.Tables.{Tables}
 use native.Mathlib.Omega.{arith}
-use mathlib.Core.Path.{◌≡◌, refl, sym, ap, ◌∙◌, subst}
+use mathlib.Core.Path.{◌≡◌, ap}
 use Rattle.writer.proofs.footprints_length.Goals as goal
 
 pub loop-f-init : goal.loop-f-init

@@ -2,16 +2,15 @@
 -- Assumes nothing.
 use Rattle.tasklist.specs.Encode.{joined, body_bytes}
 use Rattle.tasklist.specs.TaskList.{body_of}
-use Rattle.tasklist.proofs.PlaceLaws.{footprint_most, body_most, rows_count}
-use Rattle.tasklist.proofs.WriterLaws.{Put, put_fits, put_more, put_done, put_starts, rest_from, rest_length, rest_none, footprint_length, body_length}
-use Rattle.tasklist.specs.Tables.{list_of, instructions}
+use Rattle.tasklist.proofs.WriterLaws.{Put, put_fits, put_more, put_done, put_starts}
+use Rattle.tasklist.specs.Tables.{list_of}
 use lib.Seq.{sets, length-sets}
-use lib.ListN.{length, get_or, length-set}
-use mathlib.Core.List.{List, [], ◌∷◌}
-use Prim.Native.Nat.{ℕ, ◌+◌, ◌*◌, ◌-◌, ◌<◌, ◌≤◌, ◌%◌}
+use lib.ListN.{length, get_or}
+use mathlib.Core.List.{[]}
+use Prim.Native.Nat.{ℕ, ◌+◌}
 use borrow.Author.Rules.{rules}
 use native.Mathlib.Omega.{arith}
-use mathlib.Core.Path.{◌≡◌, refl, sym, ap, ◌∙◌, subst}
+use mathlib.Core.Path.{refl, sym, ◌∙◌, subst}
 use Rattle.writer.proofs.put_bodies.Goals as goal
 
 pub loop-s-init : goal.loop-s-init

@@ -1,20 +1,19 @@
 -- The mark and the count, then item by item: the invariant says what is still to be put (WriterLaws).
 -- Assumes nothing.
-use Rattle.tasklist.proofs.WriterLaws.{Put, put_fits, put_more, put_done, put_starts, put_behind, line_length, instruction_length, footprint_length, body_length, count_byte}
+use Rattle.tasklist.proofs.WriterLaws.{put_fits, put_more, put_done, put_starts, put_behind, instruction_length, count_byte}
 use Rattle.tasklist.specs.Encode.{instruction_fields, joined, body_bytes}
-use Rattle.tasklist.specs.Accepted.{blank_line}
 use Rattle.tasklist.specs.TaskList.{body_of, instruction_of, blank_instruction}
-use Rattle.tasklist.proofs.PlaceLaws.{footprint_most, body_most}
-use Rattle.tasklist.proofs.WriterLaws.{Put, put_fits, put_more, put_done, put_starts, put_behind, line_length, instruction_length, footprint_length, body_length}
+use Rattle.tasklist.proofs.PlaceLaws.{body_most}
+use Rattle.tasklist.proofs.WriterLaws.{put_fits, put_more, put_done, put_starts, put_behind, instruction_length}
 use Rattle.tasklist.specs.Tables.{list_of}
 use lib.Seq.{sets, length-sets}
-use lib.ListN.{length, get_or, length-set}
+use lib.ListN.{length, get_or}
 use mathlib.Core.List.{List, [], ◌∷◌}
-use Prim.Native.Nat.{ℕ, ◌+◌, ◌*◌, ◌-◌, ◌<◌, ◌≤◌, ◌%◌}
+use Prim.Native.Nat.{ℕ, ◌+◌, ◌≤◌, ◌%◌}
 use borrow.Author.Rules.{rules}
 use Rattle.tasklist.specs.declared.Tables.{Tables}
 use native.Mathlib.Omega.{arith}
-use mathlib.Core.Path.{◌≡◌, refl, sym, ap, ◌∙◌, subst}
+use mathlib.Core.Path.{◌≡◌, sym, ap, ◌∙◌}
 use Rattle.writer.proofs.put_body.Goals as goal
 
 size_small : (t : Tables) (s : ℕ) → length (body_of (list_of t) s) ≤ 32

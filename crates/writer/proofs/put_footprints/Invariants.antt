@@ -1,15 +1,10 @@
 use Rattle.tasklist.specs.Encode.{joined, footprint_bytes}
-use Rattle.tasklist.specs.TaskList.{footprint_of}
-use Rattle.tasklist.proofs.PlaceLaws.{footprint_most, body_most, rows_count}
-use Rattle.tasklist.proofs.WriterLaws.{Put, put_fits, put_more, put_done, put_starts, rest_from, rest_length, rest_none, footprint_length, body_length}
-use Rattle.tasklist.specs.Tables.{list_of, instructions}
-use lib.Seq.{sets, length-sets}
-use lib.ListN.{length, get_or, length-set}
-use mathlib.Core.List.{List, [], ◌∷◌}
-use Prim.Native.Nat.{ℕ, ◌+◌, ◌*◌, ◌-◌, ◌<◌, ◌≤◌, ◌%◌}
-use borrow.Author.Rules.{rules}
-use native.Mathlib.Omega.{arith}
-use mathlib.Core.Path.{◌≡◌, refl, sym, ap, ◌∙◌, subst}
+use Rattle.tasklist.proofs.WriterLaws.{Put}
+use Rattle.tasklist.specs.Tables.{list_of}
+use lib.Seq.{sets}
+use lib.ListN.{length}
+use Prim.Native.Nat.{◌+◌, ◌-◌, ◌≤◌}
+use mathlib.Core.Path.{◌≡◌}
 use Rattle.writer.proofs.put_footprints.Given as goal
 
 abbrev pub invariant-loop-f : goal.invariant-loop-f

@@ -1,13 +1,9 @@
 -- Four stores.
 -- Assumes nothing.
 use native.Mathlib.Numerals.{add-one, add-two, add-three}
-use lib.Seq.{sets}
-use lib.ListN.{length, get_or, length-set}
-use mathlib.Core.List.{List, [], ◌∷◌}
-use Prim.Native.Nat.{ℕ, ◌+◌, ◌*◌, ◌-◌, ◌<◌, ◌≤◌, ◌%◌}
+use lib.ListN.{length-set}
 use native.Mathlib.Omega.{arith}
-use mathlib.Core.Path.{◌≡◌, refl, sym, ap, ◌∙◌, subst}
-use borrow.Author.Rules.{rules}
+use mathlib.Core.Path.{refl}
 use Rattle.writer.proofs.put_four.Goals as goal
 
 pub bounds-out-at-2 : goal.bounds-out-at-2

@@ -4,13 +4,13 @@ use Rattle.tasklist.specs.Encode.{head_bytes}
 use Rattle.tasklist.proofs.PlaceLaws.{footprints_few, bodies_few}
 use Rattle.tasklist.proofs.WriterLaws.{count_byte}
 use mathlib.Core.Path.{ap₂}
-use Rattle.tasklist.specs.Tables.{list_of, instructions}
+use Rattle.tasklist.specs.Tables.{list_of}
 use lib.Seq.{sets, length-sets}
-use lib.ListN.{length, get_or, set, length-set}
+use lib.ListN.{length, set, length-set}
 use mathlib.Core.List.{List, [], ◌∷◌}
-use Prim.Native.Nat.{ℕ, ◌+◌, ◌*◌, ◌-◌, ◌<◌, ◌≤◌, ◌%◌}
+use Prim.Native.Nat.{ℕ, ◌%◌}
 use native.Mathlib.Omega.{arith}
-use mathlib.Core.Path.{◌≡◌, refl, sym, ap, ◌∙◌, subst}
+use mathlib.Core.Path.{◌≡◌, ap, ◌∙◌}
 use borrow.Author.Rules.{rules}
 use Rattle.writer.proofs.put_head.Goals as goal
 

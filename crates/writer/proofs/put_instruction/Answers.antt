@@ -3,12 +3,7 @@
 use Rattle.tasklist.specs.Encode.{instruction_fields}
 use Rattle.tasklist.specs.declared.Instruction.{Instruction}
 use lib.Seq.{sets}
-use lib.ListN.{length, get_or, length-set}
-use mathlib.Core.List.{List, [], ◌∷◌}
-use Prim.Native.Nat.{ℕ, ◌+◌, ◌*◌, ◌-◌, ◌<◌, ◌≤◌, ◌%◌}
-use native.Mathlib.Omega.{arith}
-use mathlib.Core.Path.{◌≡◌, refl, sym, ap, ◌∙◌, subst}
-use borrow.Author.Rules.{rules}
+use mathlib.Core.Path.{sym, ap, ◌∙◌}
 use Rattle.writer.proofs.put_instruction.Goals as goal
 
 pub returns-in-Const : goal.returns-in-Const

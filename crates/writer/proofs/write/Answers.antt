@@ -3,14 +3,13 @@
 use Rattle.tasklist.specs.Answers.{gives}
 use Rattle.tasklist.specs.Encode.{joined, footprint_bytes, body_bytes, head_bytes, encode}
 use Rattle.tasklist.proofs.WriterLaws.{encode_length, put_whole, places_short, answer_short, places_put, answer_put}
-use Rattle.tasklist.specs.Tables.{list_of, instructions}
+use Rattle.tasklist.specs.Tables.{list_of}
 use lib.Seq.{sets, length-sets}
-use lib.ListN.{length, get_or, set, length-set}
-use mathlib.Core.List.{List, [], ◌∷◌}
-use Prim.Native.Nat.{ℕ, ◌+◌, ◌*◌, ◌-◌, ◌<◌, ◌≤◌, ◌%◌}
+use lib.ListN.{length}
+use mathlib.Core.List.{List}
+use Prim.Native.Nat.{ℕ, ◌+◌, ◌≤◌}
 use native.Mathlib.Omega.{arith}
-use mathlib.Core.Path.{◌≡◌, refl, sym, ap, ◌∙◌, subst}
-use borrow.Author.Rules.{rules}
+use mathlib.Core.Path.{◌≡◌, ap, ◌∙◌}
 use Rattle.writer.proofs.write.Goals as goal
 
 pub returns-then-out-n : goal.returns-then-out-n

@@ -1,11 +1,10 @@
 -- None of the first i accesses has the task as a writer.
 -- Assumes nothing.
-use Prim.Native.Nat.{◌-◌, ◌≤◌}
-use mathlib.Core.Path.{◌≡◌, sym, ap, ◌∙◌}
+use mathlib.Core.Path.{sym, ap, ◌∙◌}
 use lib.ListN.{length, get_or}
 use native.Mathlib.Omega.{arith}
 use Rattle.semantics.specs.Access.{compatible}
-use Rattle.ahead.proofs.SearchLaws.{Looked, looked_none, looked_all, looked_whole, looked_writer, looked_pass, looked_other}
+use Rattle.ahead.proofs.SearchLaws.{looked_none, looked_all, looked_whole, looked_writer, looked_pass, looked_other}
 use borrow.Author.Rules.{rules}
 use Rattle.ahead.proofs.search.hold_of.Goals as goal
 

@@ -1,10 +1,7 @@
 use Prim.Native.Nat.{◌-◌, ◌≤◌}
-use mathlib.Core.Path.{◌≡◌, sym, ap, ◌∙◌}
-use lib.ListN.{length, get_or}
-use native.Mathlib.Omega.{arith}
-use Rattle.semantics.specs.Access.{compatible}
-use Rattle.ahead.proofs.SearchLaws.{Looked, looked_none, looked_all, looked_whole, looked_writer, looked_pass, looked_other}
-use borrow.Author.Rules.{rules}
+use mathlib.Core.Path.{◌≡◌}
+use lib.ListN.{length}
+use Rattle.ahead.proofs.SearchLaws.{Looked}
 use Rattle.ahead.proofs.search.hold_of.Given as goal
 
 abbrev pub invariant-loop-i : goal.invariant-loop-i

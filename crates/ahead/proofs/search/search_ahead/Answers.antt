@@ -1,11 +1,10 @@
 -- None of the first i of the order is a writer.
 -- Assumes nothing.
-use Prim.Native.Nat.{◌+◌, ◌-◌, ◌≤◌}
+use Prim.Native.Nat.{◌+◌}
 use mathlib.Core.Path.{◌≡◌, sym, ap, ◌∙◌}
-use lib.ListN.{length}
 use native.Mathlib.Omega.{arith}
 use Rattle.ahead.specs.Ahead.{accesses_of}
-use Rattle.ahead.proofs.SearchLaws.{searched, SearchedTo, searched_none, searched_all, searched_whole, searched_writer, searched_pass, searched_other}
+use Rattle.ahead.proofs.SearchLaws.{searched, searched_none, searched_all, searched_whole, searched_writer, searched_pass, searched_other}
 use borrow.Author.Rules.{rules}
 use Rattle.ahead.proofs.search.search_ahead.Goals as goal
 

@@ -1,10 +1,8 @@
-use Prim.Native.Nat.{◌+◌, ◌-◌, ◌≤◌}
-use mathlib.Core.Path.{◌≡◌, sym, ap, ◌∙◌}
+use Prim.Native.Nat.{◌-◌, ◌≤◌}
+use mathlib.Core.Path.{◌≡◌}
 use lib.ListN.{length}
-use native.Mathlib.Omega.{arith}
 use Rattle.ahead.specs.Ahead.{accesses_of}
-use Rattle.ahead.proofs.SearchLaws.{searched, SearchedTo, searched_none, searched_all, searched_whole, searched_writer, searched_pass, searched_other}
-use borrow.Author.Rules.{rules}
+use Rattle.ahead.proofs.SearchLaws.{SearchedTo}
 use Rattle.ahead.proofs.search.search_ahead.Given as goal
 
 abbrev pub invariant-loop-i : goal.invariant-loop-i

@@ -3,7 +3,6 @@
 use mathlib.Core.Path.{refl}
 use native.Mathlib.Omega.{arith}
 use Rattle.ahead.specs.Ahead.{accesses, accesses_of}
-use borrow.Author.Rules.{rules}
 use Rattle.ahead.proofs.search.wanted_at.Goals as goal
 
 pub returns-then-location-lt64 : goal.returns-then-location-lt64

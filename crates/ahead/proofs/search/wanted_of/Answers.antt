@@ -1,13 +1,10 @@
 -- The accesses at the first locations are collected.
 -- Assumes nothing.
-use Prim.Native.Nat.{◌-◌, ◌≤◌, ◌<◌}
-use mathlib.Core.Path.{◌≡◌}
-use lib.ListN.{length}
 use native.Mathlib.Omega.{arith}
 use Rattle.arrays.specs.Rows.{row}
 use Rattle.ahead.specs.Ahead.{accesses_of}
 use Rattle.arrays.proofs.RowLaws.{row_length}
-use Rattle.ahead.proofs.SearchLaws.{Collected, collect_none, collect_skip, collect_next, collect_all}
+use Rattle.ahead.proofs.SearchLaws.{collect_none, collect_skip, collect_next, collect_all}
 use borrow.Author.Rules.{rules}
 use Rattle.ahead.proofs.search.wanted_of.Goals as goal
 

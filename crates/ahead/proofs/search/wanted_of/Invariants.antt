@@ -1,12 +1,8 @@
 use Prim.Native.Nat.{◌-◌, ◌≤◌, ◌<◌}
 use mathlib.Core.Path.{◌≡◌}
 use lib.ListN.{length}
-use native.Mathlib.Omega.{arith}
 use Rattle.arrays.specs.Rows.{row}
-use Rattle.ahead.specs.Ahead.{accesses_of}
-use Rattle.arrays.proofs.RowLaws.{row_length}
-use Rattle.ahead.proofs.SearchLaws.{Collected, collect_none, collect_skip, collect_next, collect_all}
-use borrow.Author.Rules.{rules}
+use Rattle.ahead.proofs.SearchLaws.{Collected}
 use Rattle.ahead.proofs.search.wanted_of.Given as goal
 
 abbrev pub invariant-loop-location : goal.invariant-loop-location

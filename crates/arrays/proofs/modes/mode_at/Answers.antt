@@ -1,9 +1,7 @@
 -- A place of a row, or none.
 -- Assumes nothing.
-use Prim.Native.Nat.{◌-◌}
 use native.Mathlib.Omega.{arith}
 use Rattle.arrays.proofs.RowLaws.{row_place, row_past, row_beyond}
-use borrow.Author.Rules.{rules}
 use Rattle.arrays.proofs.modes.mode_at.Goals as goal
 
 pub returns-then-task-ge128 : goal.returns-then-task-ge128

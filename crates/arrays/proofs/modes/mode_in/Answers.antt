@@ -4,7 +4,6 @@ use Prim.Native.Nat.{◌≤◌}
 use mathlib.Core.Path.{refl, sym}
 use native.Mathlib.Omega.{arith}
 use lib.ListN.{length, get_or-eq_default}
-use borrow.Author.Rules.{rules}
 use Rattle.arrays.proofs.modes.mode_in.Goals as goal
 
 pub returns-then-location-ge64 : goal.returns-then-location-ge64

@@ -1,9 +1,8 @@
 -- The first j places of the row are pasted.
 -- Assumes nothing.
-use Prim.Native.Nat.{◌*◌, ◌-◌, ◌≤◌, ◌<◌}
-use mathlib.Core.Path.{◌≡◌, refl}
-use lib.ListN.{length}
-use lib.Seq.{paste, paste-zero}
+use Prim.Native.Nat.{◌*◌}
+use mathlib.Core.Path.{refl}
+use lib.Seq.{paste-zero}
 use native.Mathlib.Omega.{arith}
 use Rattle.arrays.proofs.RowLaws.{pasted_more, pasted_whole}
 use borrow.Author.Rules.{rules}

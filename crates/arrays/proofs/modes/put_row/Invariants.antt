@@ -1,10 +1,7 @@
 use Prim.Native.Nat.{◌*◌, ◌-◌, ◌≤◌, ◌<◌}
-use mathlib.Core.Path.{◌≡◌, refl}
+use mathlib.Core.Path.{◌≡◌}
 use lib.ListN.{length}
-use lib.Seq.{paste, paste-zero}
-use native.Mathlib.Omega.{arith}
-use Rattle.arrays.proofs.RowLaws.{pasted_more, pasted_whole}
-use borrow.Author.Rules.{rules}
+use lib.Seq.{paste}
 use Rattle.arrays.proofs.modes.put_row.Given as goal
 
 abbrev pub invariant-loop-j : goal.invariant-loop-j

@@ -1,8 +1,7 @@
 -- The first j places are those of the row.
 -- Assumes nothing.
-use Prim.Native.Nat.{◌*◌, ◌-◌, ◌≤◌, ◌<◌}
-use mathlib.Core.Path.{◌≡◌, refl}
-use lib.ListN.{length, take, drop}
+use Prim.Native.Nat.{◌*◌}
+use mathlib.Core.Path.{refl}
 use native.Mathlib.Omega.{arith}
 use Rattle.arrays.proofs.RowLaws.{copied_more, copied_whole}
 use borrow.Author.Rules.{rules}

@@ -1,9 +1,6 @@
 use Prim.Native.Nat.{◌*◌, ◌-◌, ◌≤◌, ◌<◌}
-use mathlib.Core.Path.{◌≡◌, refl}
+use mathlib.Core.Path.{◌≡◌}
 use lib.ListN.{length, take, drop}
-use native.Mathlib.Omega.{arith}
-use Rattle.arrays.proofs.RowLaws.{copied_more, copied_whole}
-use borrow.Author.Rules.{rules}
 use Rattle.arrays.proofs.modes.row_of.Given as goal
 
 abbrev pub invariant-loop-j : goal.invariant-loop-j

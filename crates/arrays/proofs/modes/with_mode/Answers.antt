@@ -3,7 +3,6 @@
 use mathlib.Core.Path.{refl, sym}
 use native.Mathlib.Omega.{arith}
 use lib.Seq.{set_out}
-use borrow.Author.Rules.{rules}
 use Rattle.arrays.proofs.modes.with_mode.Goals as goal
 
 pub returns-then-location-gt63 : goal.returns-then-location-gt63

@@ -1,8 +1,7 @@
 -- The first left + 1 but for place i are the first left of the order at first.
 -- Assumes nothing.
-use Prim.Native.Nat.{◌≤◌, ◌<◌}
 use mathlib.Core.Path.{◌≡◌, refl, subst, ◌∙◌}
-use lib.ListN.{length, length-set}
+use lib.ListN.{length-set}
 use native.Mathlib.Omega.{arith}
 use Rattle.arrays.proofs.OrderLaws.{Opened, opened_last, opened_back, opened_filled}
 use borrow.Author.Rules.{rules}

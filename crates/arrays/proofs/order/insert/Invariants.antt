@@ -1,9 +1,7 @@
 use Prim.Native.Nat.{◌≤◌, ◌<◌}
-use mathlib.Core.Path.{◌≡◌, refl, subst, ◌∙◌}
-use lib.ListN.{length, length-set}
-use native.Mathlib.Omega.{arith}
-use Rattle.arrays.proofs.OrderLaws.{Opened, opened_last, opened_back, opened_filled}
-use borrow.Author.Rules.{rules}
+use mathlib.Core.Path.{◌≡◌}
+use lib.ListN.{length}
+use Rattle.arrays.proofs.OrderLaws.{Opened}
 use Rattle.arrays.proofs.order.insert.Given as goal
 
 abbrev pub invariant-loop-i : goal.invariant-loop-i

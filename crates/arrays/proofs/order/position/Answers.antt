@@ -1,10 +1,8 @@
 -- The first i are passed: the answer is the one on what is left.
 -- Assumes nothing.
-use Prim.Native.Nat.{◌-◌, ◌≤◌}
-use mathlib.Core.Path.{◌≡◌}
-use lib.ListN.{length, take}
+use lib.ListN.{take}
 use native.Mathlib.Omega.{arith}
-use Rattle.arrays.proofs.OrderLaws.{Passed, passed_none, found_here, not_here, found_nowhere, found_not_at_all}
+use Rattle.arrays.proofs.OrderLaws.{passed_none, found_here, not_here, found_nowhere, found_not_at_all}
 use borrow.Author.Rules.{rules}
 use Rattle.arrays.proofs.order.position.Goals as goal
 

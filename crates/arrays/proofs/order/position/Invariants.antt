@@ -1,9 +1,7 @@
 use Prim.Native.Nat.{◌-◌, ◌≤◌}
 use mathlib.Core.Path.{◌≡◌}
 use lib.ListN.{length, take}
-use native.Mathlib.Omega.{arith}
-use Rattle.arrays.proofs.OrderLaws.{Passed, passed_none, found_here, not_here, found_nowhere, found_not_at_all}
-use borrow.Author.Rules.{rules}
+use Rattle.arrays.proofs.OrderLaws.{Passed}
 use Rattle.arrays.proofs.order.position.Given as goal
 
 abbrev pub invariant-loop-i : goal.invariant-loop-i

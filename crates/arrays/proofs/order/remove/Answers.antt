@@ -1,10 +1,8 @@
 -- The first left but for place i are what is to be left.
 -- Assumes nothing.
-use Prim.Native.Nat.{◌-◌, ◌≤◌, ◌<◌}
-use mathlib.Core.Path.{◌≡◌, refl}
-use lib.ListN.{length}
+use mathlib.Core.Path.{refl}
 use native.Mathlib.Omega.{arith}
-use Rattle.arrays.proofs.OrderLaws.{Closing, closing_first, closing_forward, closing_last}
+use Rattle.arrays.proofs.OrderLaws.{closing_first, closing_forward, closing_last}
 use borrow.Author.Rules.{rules}
 use Rattle.arrays.proofs.order.remove.Goals as goal
 

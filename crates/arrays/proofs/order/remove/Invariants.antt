@@ -1,9 +1,7 @@
 use Prim.Native.Nat.{◌-◌, ◌≤◌, ◌<◌}
-use mathlib.Core.Path.{◌≡◌, refl}
+use mathlib.Core.Path.{◌≡◌}
 use lib.ListN.{length}
-use native.Mathlib.Omega.{arith}
-use Rattle.arrays.proofs.OrderLaws.{Closing, closing_first, closing_forward, closing_last}
-use borrow.Author.Rules.{rules}
+use Rattle.arrays.proofs.OrderLaws.{Closing}
 use Rattle.arrays.proofs.order.remove.Given as goal
 
 abbrev pub invariant-loop-i : goal.invariant-loop-i

@@ -1,17 +1,9 @@
-use Rattle.std.proofs.Common.{ℕ, ap, ◌∙◌, subst, rules}
+use Rattle.std.proofs.Common.{ℕ, ap, ◌∙◌, subst}
 use Rattle.semantics.specs.Plan.{«end»}
 use Rattle.looks.specs.Looks.{PlannedAs, end_effect, ordered}
 use Rattle.changes.specs.Changes.{counted}
 use Rattle.changes.proofs.ChangeLaws.{change_refused, end_changed}
 use Rattle.records.specs.Records.{with_state}
-use Rattle.changes.proofs.calls.end_change.Reads as reads
-use Rattle.changes.proofs.calls.end_change.Lts as lts
-use Rattle.looks.proofs.end_look.Reads as end_look_reads
-use Rattle.changes.proofs.calls.fewer.Reads as fewer_reads
-use Rattle.changes.proofs.carry.changed.Reads as changed_reads
-use Rattle.records.proofs.in_state.Reads as in_state_reads
-use Rattle.changes.proofs.carry.unchanged.Reads as unchanged_reads
-use Rattle.arrays.proofs.remove.Reads as remove_reads
 use Rattle.changes.proofs.calls.end_change.Goals as goal
 
 -- src/calls.rt:131:1

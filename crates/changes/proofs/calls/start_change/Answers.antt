@@ -1,14 +1,8 @@
-use Rattle.std.proofs.Common.{ap, ◌∙◌, subst, rules}
+use Rattle.std.proofs.Common.{ap, ◌∙◌, subst}
 use Rattle.semantics.specs.Plan.{start}
 use Rattle.looks.specs.Looks.{PlannedAs, start_effect, with_parts}
 use Rattle.changes.specs.Changes.{counted}
 use Rattle.changes.proofs.ChangeLaws.{change_refused, start_changed}
-use Rattle.changes.proofs.calls.start_change.Reads as reads
-use Rattle.changes.proofs.calls.start_change.Lts as lts
-use Rattle.looks.proofs.start_look.Reads as start_look_reads
-use Rattle.changes.proofs.carry.changed.Reads as changed_reads
-use Rattle.records.proofs.in_state.Reads as in_state_reads
-use Rattle.changes.proofs.carry.unchanged.Reads as unchanged_reads
 use Rattle.changes.proofs.calls.start_change.Goals as goal
 
 -- src/calls.rt:111:1

@@ -4,7 +4,6 @@ use Prim.Native.Nat.{ℕ, ◌/◌}
 use mathlib.Core.Path.{◌≡◌, sym, ap, ◌∙◌}
 use native.Mathlib.Omega.{arith}
 use native.Mathlib.Nat.{div-zero}
-use borrow.Author.Rules.{rules}
 use Rattle.finding.proofs.jobs.blocks_in.Goals as goal
 
 pub returns-else-count-gt0 : goal.returns-else-count-gt0

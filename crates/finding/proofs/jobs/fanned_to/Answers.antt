@@ -1,11 +1,10 @@
 -- As many blocks further as lie whole ahead of the number.
 -- Assumes nothing.
 use Prim.Native.Nat.{ℕ, ◌-◌, ◌*◌, ◌≤◌}
-use mathlib.Core.Path.{◌≡◌, ap, ◌∙◌, subst, sym}
+use mathlib.Core.Path.{◌∙◌, subst, sym}
 use native.Mathlib.Omega.{arith}
 use native.Mathlib.Nat.{div-mul-le_self}
 use Rattle.finding.proofs.JobLaws.{fanned_is}
-use borrow.Author.Rules.{rules}
 use Rattle.finding.proofs.jobs.fanned_to.Goals as goal
 
 pub overflow_mul-job : goal.overflow_mul-job

@@ -1,13 +1,8 @@
 -- The blocks of the first i instructions end at k or below.
 -- Assumes nothing.
-use Prim.Native.Nat.{◌+◌, ◌-◌, ◌≤◌, ◌<◌}
-use mathlib.Core.Path.{◌≡◌, refl, sym, ap, ◌∙◌}
 use native.Mathlib.Omega.{arith}
-use lib.ListN.{length}
-use Rattle.tasklist.specs.TaskList.{body_of}
-use Rattle.tasklist.specs.Tables.{list_of}
 use Rattle.tasklist.proofs.PlaceLaws.{body_most}
-use Rattle.finding.proofs.JobLaws.{Passed, passed_none, passed_next, passed_found, passed_all}
+use Rattle.finding.proofs.JobLaws.{passed_none, passed_next, passed_found, passed_all}
 use borrow.Author.Rules.{rules}
 use Rattle.finding.proofs.jobs.holder_of.Goals as goal
 

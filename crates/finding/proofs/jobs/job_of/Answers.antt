@@ -1,6 +1,5 @@
 -- What the levels still to go down give.
 -- Assumes nothing.
-use Prim.Native.Nat.{◌-◌, ◌≤◌, ◌<◌}
 use mathlib.Core.Path.{sym, subst}
 use native.Mathlib.Omega.{arith}
 use Rattle.finding.proofs.JobLaws.{Reached, reached_none, reached_below, reached_it, reached_all}

@@ -1,11 +1,9 @@
 -- By the instruction's case: a spawn makes a task, a fan several, any other leaves the one that stands.
 -- Assumes nothing.
-use Prim.Native.Nat.{ℕ, ◌≤◌}
-use mathlib.Core.Path.{◌≡◌, sym, ap, ◌∙◌}
+use mathlib.Core.Path.{sym, ap, ◌∙◌}
 use native.Mathlib.Omega.{arith}
 use Rattle.finding.specs.declared.Job.{Job}
 use Rattle.finding.specs.Jobs.{fanned, made}
-use borrow.Author.Rules.{rules}
 use Rattle.finding.proofs.jobs.made_by.Goals as goal
 
 pub fanned_to-requires : goal.fanned_to-requires

@@ -1,12 +1,11 @@
 -- The parts shorter than n all cut a field off.
 -- Assumes nothing.
-use Prim.Native.Nat.{◌-◌, ◌≤◌}
-use mathlib.Core.Path.{◌≡◌, refl, sym, ap, ◌∙◌}
+use mathlib.Core.Path.{sym, ◌∙◌}
 use native.Mathlib.Omega.{arith}
 use lib.ListN.{length, take}
 use lib.Seq.{length-take-le}
 use Rattle.finding.specs.Where.{is_whole, shortest_whole}
-use Rattle.finding.proofs.FirstLaws.{Failed, failed_none, failed_next, failed_passes, failed_all}
+use Rattle.finding.proofs.FirstLaws.{failed_none, failed_next, failed_passes, failed_all}
 use borrow.Author.Rules.{rules}
 use Rattle.finding.proofs.refused.refused_end.Goals as goal
 

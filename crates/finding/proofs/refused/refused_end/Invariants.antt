@@ -1,11 +1,7 @@
 use Prim.Native.Nat.{◌-◌, ◌≤◌}
-use mathlib.Core.Path.{◌≡◌, refl, sym, ap, ◌∙◌}
-use native.Mathlib.Omega.{arith}
 use lib.ListN.{length, take}
-use lib.Seq.{length-take-le}
-use Rattle.finding.specs.Where.{is_whole, shortest_whole}
-use Rattle.finding.proofs.FirstLaws.{Failed, failed_none, failed_next, failed_passes, failed_all}
-use borrow.Author.Rules.{rules}
+use Rattle.finding.specs.Where.{is_whole}
+use Rattle.finding.proofs.FirstLaws.{Failed}
 use Rattle.finding.proofs.refused.refused_end.Given as goal
 
 abbrev pub invariant-loop-n : goal.invariant-loop-n

@@ -1,12 +1,11 @@
 -- No bytes, or by check's answer.
 -- Assumes nothing.
-use mathlib.Core.Path.{◌≡◌, refl, sym, ap, ◌∙◌}
+use mathlib.Core.Path.{sym, ap, ◌∙◌}
 use mathlib.Core.Bool.{not}
 use lib.Dec.{eqb}
 use Rattle.tasklist.specs.Answers.{checked}
 use Rattle.finding.specs.Where.{whole_answer}
 use Rattle.finding.proofs.Shortest.{whole_none, whole_some}
-use borrow.Author.Rules.{rules}
 use Rattle.finding.proofs.refused.whole.Goals as goal
 
 pub returns-then-bytes-eq0 : goal.returns-then-bytes-eq0

@@ -1,11 +1,7 @@
 -- The numbers from place i on are all that is left to test.
 -- Assumes nothing.
-use Prim.Native.Nat.{◌-◌, ◌≤◌}
-use mathlib.Core.Path.{◌≡◌, sym, ◌∙◌}
+use mathlib.Core.Path.{sym, ◌∙◌}
 use native.Mathlib.Omega.{arith}
-use lib.ListN.{length, drop}
-use Rattle.semantics.specs.Run.{is_weight}
-use Rattle.semantics.specs.Access.{every}
 use Rattle.fresh.proofs.OpenLaws.{every_more, every_stops, every_ends}
 use borrow.Author.Rules.{rules}
 use Rattle.fresh.proofs.opening.all_weights.Goals as goal

@@ -1,11 +1,8 @@
 use Prim.Native.Nat.{◌-◌, ◌≤◌}
-use mathlib.Core.Path.{◌≡◌, sym, ◌∙◌}
-use native.Mathlib.Omega.{arith}
+use mathlib.Core.Path.{◌≡◌}
 use lib.ListN.{length, drop}
 use Rattle.semantics.specs.Run.{is_weight}
 use Rattle.semantics.specs.Access.{every}
-use Rattle.fresh.proofs.OpenLaws.{every_more, every_stops, every_ends}
-use borrow.Author.Rules.{rules}
 use Rattle.fresh.proofs.opening.all_weights.Given as goal
 
 abbrev pub invariant-loop-i : goal.invariant-loop-i

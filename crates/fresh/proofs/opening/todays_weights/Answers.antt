@@ -1,6 +1,5 @@
 use mathlib.Core.Path.{refl}
 use Rattle.semantics.specs.Run.{fixed_weights}
-use borrow.Author.Rules.{rules}
 use Rattle.fresh.proofs.opening.todays_weights.Goals as goal
 
 pub returns : goal.returns

@@ -1,7 +1,6 @@
 -- A run of blank parts is the blank run.
 -- Assumes nothing.
 use Rattle.fresh.proofs.StateLaws.{blank_made}
-use borrow.Author.Rules.{rules}
 use Rattle.fresh.proofs.state.blank_run.Goals as goal
 
 pub returns : goal.returns

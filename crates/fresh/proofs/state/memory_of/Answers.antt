@@ -2,7 +2,6 @@
 -- Assumes nothing.
 use lib.Seq.{take-length}
 use lib.ListN.{length-set}
-use Prim.Native.Nat.{◌-◌, ◌≤◌}
 use mathlib.Core.Path.{◌≡◌, sym, ap, ◌∙◌}
 use native.Mathlib.Omega.{arith}
 use lib.ListN.{length, take}

@@ -1,11 +1,6 @@
-use lib.Seq.{take-length}
-use lib.ListN.{length-set}
 use Prim.Native.Nat.{◌-◌, ◌≤◌}
-use mathlib.Core.Path.{◌≡◌, sym, ap, ◌∙◌}
-use native.Mathlib.Omega.{arith}
+use mathlib.Core.Path.{◌≡◌}
 use lib.ListN.{length, take}
-use Rattle.fresh.proofs.StateLaws.{filled}
-use borrow.Author.Rules.{rules}
 use Rattle.fresh.proofs.state.memory_of.Given as goal
 
 abbrev pub invariant-loop-i : goal.invariant-loop-i

@@ -1,12 +1,11 @@
 -- The first modes are write.
 -- Assumes nothing.
-use Prim.Native.Nat.{ℕ, ◌+◌, ◌-◌, ◌≤◌}
+use Prim.Native.Nat.{ℕ, ◌-◌}
 use mathlib.Core.Path.{◌≡◌, ap, ◌∙◌}
 use mathlib.Core.List.{◌++◌}
 use native.Mathlib.Omega.{arith}
 use lib.ListN.{set, replicate}
 use Rattle.fresh.proofs.StateLaws.{started_with}
-use borrow.Author.Rules.{rules}
 use Rattle.fresh.proofs.state.root_modes.Goals as goal
 
 pub loop-a-preserved : goal.loop-a-preserved

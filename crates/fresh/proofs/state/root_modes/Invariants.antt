@@ -1,10 +1,7 @@
-use Prim.Native.Nat.{ℕ, ◌+◌, ◌-◌, ◌≤◌}
-use mathlib.Core.Path.{◌≡◌, ap, ◌∙◌}
+use Prim.Native.Nat.{◌-◌, ◌≤◌}
+use mathlib.Core.Path.{◌≡◌}
 use mathlib.Core.List.{◌++◌}
-use native.Mathlib.Omega.{arith}
-use lib.ListN.{set, replicate}
-use Rattle.fresh.proofs.StateLaws.{started_with}
-use borrow.Author.Rules.{rules}
+use lib.ListN.{replicate}
 use Rattle.fresh.proofs.state.root_modes.Given as goal
 
 abbrev pub invariant-loop-a : goal.invariant-loop-a

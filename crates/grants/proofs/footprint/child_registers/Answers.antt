@@ -1,7 +1,6 @@
 -- The first, or another.
 -- Assumes nothing.
 use Rattle.grants.proofs.TestedLaws.{registers_first, registers_later}
-use borrow.Author.Rules.{rules}
 use Rattle.grants.proofs.footprint.child_registers.Goals as goal
 
 pub returns-then-i-eq0 : goal.returns-then-i-eq0

@@ -1,6 +1,6 @@
 -- The first j lines are granted.
 -- Assumes nothing.
-use Prim.Native.Nat.{◌+◌, ◌*◌, ◌-◌, ◌≤◌, ◌<◌}
+use Prim.Native.Nat.{◌+◌, ◌*◌, ◌<◌}
 use mathlib.Core.Path.{◌≡◌, sym, ap, subst, ◌∙◌}
 use native.Mathlib.Omega.{arith}
 use lib.ListN.{length, get_or, set}
@@ -8,8 +8,6 @@ use Rattle.tasklist.specs.declared.Line.{Line}
 use Rattle.tasklist.specs.Accepted.{blank_line}
 use Rattle.tasklist.specs.TaskList.{footprint_of}
 use Rattle.tasklist.specs.Tables.{list_of}
-use Rattle.tasklist.specs.contracts.Line.{the_type as the_line}
-use Rattle.tasklist.proofs.PlaceLaws.{length_lowered}
 use Rattle.listing.proofs.AccessLaws.{footprint_size_is, line_is}
 use Rattle.semantics.specs.Run.{no_modes}
 use Rattle.semantics.specs.Access.{access_fault}

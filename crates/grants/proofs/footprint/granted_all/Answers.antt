@@ -1,13 +1,12 @@
 -- The first i children are granted.
 -- Assumes nothing.
-use Prim.Native.Nat.{◌-◌, ◌≤◌}
 use mathlib.Core.Path.{sym, ◌∙◌}
 use native.Mathlib.Omega.{arith}
 use Rattle.tasklist.specs.TaskList.{footprint_of}
 use Rattle.tasklist.specs.Tables.{list_of}
 use Rattle.semantics.specs.Run.{no_modes}
 use Rattle.grants.specs.Grants.{grant_of, child_grant}
-use Rattle.grants.proofs.TestedLaws.{child_given, Tested, tested_none, tested_more, tested_denied, tested_all}
+use Rattle.grants.proofs.TestedLaws.{child_given, tested_none, tested_more, tested_denied, tested_all}
 use borrow.Author.Rules.{rules}
 use Rattle.grants.proofs.footprint.granted_all.Goals as goal
 

@@ -1,12 +1,8 @@
 use Prim.Native.Nat.{◌-◌, ◌≤◌}
-use mathlib.Core.Path.{sym, ◌∙◌}
-use native.Mathlib.Omega.{arith}
 use Rattle.tasklist.specs.TaskList.{footprint_of}
 use Rattle.tasklist.specs.Tables.{list_of}
-use Rattle.semantics.specs.Run.{no_modes}
 use Rattle.grants.specs.Grants.{grant_of, child_grant}
-use Rattle.grants.proofs.TestedLaws.{child_given, Tested, tested_none, tested_more, tested_denied, tested_all}
-use borrow.Author.Rules.{rules}
+use Rattle.grants.proofs.TestedLaws.{Tested}
 use Rattle.grants.proofs.footprint.granted_all.Given as goal
 
 abbrev pub invariant-loop-i : goal.invariant-loop-i

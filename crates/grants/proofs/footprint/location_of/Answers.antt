@@ -3,7 +3,6 @@
 use mathlib.Core.Path.{◌∙◌}
 use native.Mathlib.Omega.{arith}
 use Rattle.grants.proofs.GrantLaws.{names_value, names_register, names_summed, names_summed_register, names_none}
-use borrow.Author.Rules.{rules}
 use Rattle.grants.proofs.footprint.location_of.Goals as goal
 
 pub returns-then-kind-lt2 : goal.returns-then-kind-lt2

@@ -4,7 +4,6 @@ use Prim.Native.Nat.{◌≤◌}
 use mathlib.Core.Path.{sym, ap}
 use native.Mathlib.Omega.{arith}
 use lib.ListN.{length, get_or, get_or-eq_default}
-use borrow.Author.Rules.{rules}
 use Rattle.grants.proofs.footprint.register_at.Goals as goal
 
 pub returns-then-i-lt4 : goal.returns-then-i-lt4

@@ -1,8 +1,7 @@
 -- The first bytes are copied. Assumes nothing.
-use Prim.Native.Nat.{◌-◌, ◌≤◌}
 use mathlib.Core.Path.{◌≡◌, sym, ap, ◌∙◌}
 use native.Mathlib.Omega.{arith}
-use lib.ListN.{length, take, length-set}
+use lib.ListN.{take, length-set}
 use Rattle.fresh.proofs.StateLaws.{filled}
 use borrow.Author.Rules.{rules}
 use Rattle.lent.proofs.pieces.bytes_of.Goals as goal

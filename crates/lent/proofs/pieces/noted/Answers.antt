@@ -1,7 +1,6 @@
 -- The answer's number is noted. Assumes nothing.
 use mathlib.Core.Path.{subst}
 use Rattle.lent.specs.Pieces.{NotedAs}
-use borrow.Author.Rules.{rules}
 use Rattle.lent.proofs.pieces.noted.Goals as goal
 
 pub returns : goal.returns

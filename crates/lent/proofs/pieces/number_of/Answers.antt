@@ -1,7 +1,6 @@
 -- Zero, or the refusal's number. Assumes nothing.
 use mathlib.Core.Path.{sym, ap, ◌∙◌}
 use Rattle.semantics.specs.Answers.{answer_number}
-use borrow.Author.Rules.{rules}
 use Rattle.lent.proofs.pieces.number_of.Goals as goal
 
 pub returns-in-Accepted : goal.returns-in-Accepted

@@ -1,7 +1,6 @@
 -- As many bytes as a piece holds, from the first turn on. Assumes nothing.
 use mathlib.Core.Path.{refl}
 use Rattle.lent.proofs.PieceLaws.{begun}
-use borrow.Author.Rules.{rules}
 use Rattle.lent.proofs.pieces.piece_of.Goals as goal
 
 pub returns : goal.returns

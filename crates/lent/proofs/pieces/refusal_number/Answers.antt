@@ -1,7 +1,6 @@
 -- Each refusal's number. Assumes nothing.
 use mathlib.Core.Path.{sym, ap}
 use Rattle.semantics.specs.Answers.{refusal_number}
-use borrow.Author.Rules.{rules}
 use Rattle.lent.proofs.pieces.refusal_number.Goals as goal
 
 pub returns-in-Number : goal.returns-in-Number

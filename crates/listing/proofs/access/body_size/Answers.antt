@@ -1,8 +1,6 @@
 -- The size of its row.
 -- Assumes nothing.
 use mathlib.Core.Path.{◌∙◌}
-use Rattle.tasklist.specs.contracts.Cell.{the_type as the_cell}
-use Rattle.tasklist.proofs.PlaceLaws.{length_lowered}
 use Rattle.listing.proofs.AccessLaws.{body_size_is}
 use borrow.Author.Rules.{rules}
 use Rattle.listing.proofs.access.body_size.Goals as goal

@@ -1,8 +1,6 @@
 -- The size of its row.
 -- Assumes nothing.
 use mathlib.Core.Path.{◌∙◌}
-use Rattle.tasklist.specs.contracts.Line.{the_type as the_line}
-use Rattle.tasklist.proofs.PlaceLaws.{length_lowered}
 use Rattle.listing.proofs.AccessLaws.{footprint_size_is}
 use borrow.Author.Rules.{rules}
 use Rattle.listing.proofs.access.footprint_size.Goals as goal

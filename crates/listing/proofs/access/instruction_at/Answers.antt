@@ -5,8 +5,7 @@ use native.Mathlib.Omega.{arith}
 use lib.ListN.{get_or-eq_default}
 use Rattle.tasklist.specs.TaskList.{body_of, instruction_of, blank_instruction}
 use Rattle.tasklist.specs.Tables.{list_of, blank_cell}
-use Rattle.tasklist.specs.contracts.Cell.{the_type as the_cell}
-use Rattle.tasklist.proofs.PlaceLaws.{length_lowered, body_most}
+use Rattle.tasklist.proofs.PlaceLaws.{body_most}
 use Rattle.listing.proofs.AccessLaws.{body_below, instruction_is}
 use borrow.Author.Rules.{rules}
 use Rattle.listing.proofs.access.instruction_at.Goals as goal

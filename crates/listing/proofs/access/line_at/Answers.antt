@@ -6,8 +6,7 @@ use lib.ListN.{get_or-eq_default}
 use Rattle.tasklist.specs.TaskList.{footprint_of}
 use Rattle.tasklist.specs.Tables.{list_of}
 use Rattle.tasklist.specs.Accepted.{blank_line}
-use Rattle.tasklist.specs.contracts.Line.{the_type as the_line}
-use Rattle.tasklist.proofs.PlaceLaws.{length_lowered, footprint_most}
+use Rattle.tasklist.proofs.PlaceLaws.{footprint_most}
 use Rattle.listing.proofs.AccessLaws.{footprint_below, line_is}
 use borrow.Author.Rules.{rules}
 use Rattle.listing.proofs.access.line_at.Goals as goal

@@ -1,7 +1,6 @@
 -- After a fault, or by the place.
 -- Assumes nothing.
 use Rattle.looks.proofs.LookLaws.{finished_fault, finished_pc}
-use borrow.Author.Rules.{rules}
 use Rattle.looks.proofs.look.at_end.Goals as goal
 
 pub returns-then-own-ne0 : goal.returns-then-own-ne0

@@ -8,7 +8,6 @@ use Rattle.plans.specs.View.{Parts}
 use Rattle.looks.specs.Looks.{LocatedAs, ordered}
 use Rattle.looks.proofs.LookLaws.{end_waiting, end_free, end_too_soon, ends}
 use Rattle.looks.specs.declared.Located.TheVariants.{At}
-use borrow.Author.Rules.{rules}
 use Rattle.looks.proofs.look.end_look.Goals.{In-At}
 use Rattle.looks.proofs.look.end_look.Goals as goal
 

@@ -5,7 +5,6 @@ use Rattle.semantics.specs.Answers.{refusal_number}
 use Rattle.looks.specs.Looks.{ordered}
 use Rattle.plans.proofs.DecideLaws.{no_number}
 use Rattle.looks.proofs.LookLaws.{absent_refused, found_placed}
-use borrow.Author.Rules.{rules}
 use Rattle.looks.proofs.look.place_of.Goals as goal
 
 pub returns-then-task-gt127 : goal.returns-then-task-gt127

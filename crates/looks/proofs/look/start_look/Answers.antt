@@ -13,7 +13,6 @@ use Rattle.plans.specs.Calls.{decided}
 use Rattle.looks.specs.Looks.{LocatedAs, start_effect, with_parts}
 use Rattle.looks.proofs.LookLaws.{started_again, start_looked}
 use Rattle.looks.specs.declared.Located.TheVariants.{At}
-use borrow.Author.Rules.{rules}
 use Rattle.looks.proofs.look.start_look.Goals.{After-search_ahead-searched, In-At}
 use Rattle.looks.proofs.look.start_look.Goals as goal
 

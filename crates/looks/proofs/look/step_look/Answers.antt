@@ -9,7 +9,6 @@ use Rattle.looks.specs.Looks.{LocatedAs, ordered}
 use Rattle.plans.proofs.StepLaws.{step_waiting, step_finished}
 use Rattle.looks.proofs.LookLaws.{ends, some_parts}
 use Rattle.looks.specs.declared.Located.TheVariants.{At}
-use borrow.Author.Rules.{rules}
 use Rattle.looks.proofs.look.step_look.Goals.{In-At}
 use Rattle.looks.proofs.look.step_look.Goals as goal
 

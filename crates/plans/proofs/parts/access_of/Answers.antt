@@ -1,6 +1,6 @@
 -- A fault, else by the search.
 -- Assumes nothing.
-use Rattle.std.proofs.Common.{◌≡◌, ap, rules}
+use Rattle.std.proofs.Common.{◌≡◌, ap}
 use Rattle.semantics.specs.Answers.{refusal_number}
 use Rattle.ahead.specs.declared.Hold.{Hold}
 use Rattle.ahead.specs.declared.Hold.TheVariants.{Free, Writer, Others}

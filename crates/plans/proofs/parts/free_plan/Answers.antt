@@ -1,20 +1,9 @@
 -- A law for each of those that never wait; of the others nothing is said.
 -- Assumes nothing.
-use Rattle.std.proofs.Common.{sym, ap, subst, rules}
-use Rattle.plans.specs.Steps.{FreeAs, PlansFree, quotient_plan}
+use Rattle.std.proofs.Common.{sym, subst}
+use Rattle.plans.specs.Steps.{FreeAs, quotient_plan}
 use Rattle.plans.proofs.StepLaws.{const_free, add_free, sub_free, less_free, skip_free, spawn_free, fan_free, mul_free, div_free}
 use Rattle.plans.specs.declared.StepPlan.TheVariants.{Assign, Pass, Make}
-use Rattle.plans.proofs.parts.free_plan.Reads as reads
-use Rattle.plans.proofs.parts.free_plan.Lts as lts
-use Rattle.records.proofs.constant.Reads as constant_reads
-use Rattle.records.proofs.difference.Reads as difference_reads
-use Rattle.records.proofs.less.Reads as less_reads
-use Rattle.records.proofs.passed_over.Reads as passed_over_reads
-use Rattle.std.proofs.num.wrapping_add_u32.Reads as wrapping_add_u32_reads
-use Rattle.grants.proofs.register_at.Reads as register_at_reads
-use Rattle.records.proofs.product.Reads as product_reads
-use Rattle.records.proofs.ratio.Reads as ratio_reads
-use Rattle.plans.proofs.parts.quotient_plan.Reads as quotient_plan_reads
 use Rattle.plans.proofs.parts.free_plan.Goals as goal
 
 pub returns-in-Const : goal.returns-in-Const

@@ -1,12 +1,8 @@
 -- By the code.
 -- Assumes nothing.
-use Rattle.std.proofs.Common.{ℕ, ◌≤◌, ◌≢◌, sym, subst, inl, inr, arith, rules}
+use Rattle.std.proofs.Common.{ℕ, ◌≤◌, ◌≢◌, sym, subst, inl, inr, arith}
 use Rattle.plans.specs.Steps.{looking, PlansFree}
-use Rattle.plans.proofs.StepLaws.{either, waiting_code, free_code, free_plans}
-use Rattle.plans.proofs.parts.plan_of.Reads as reads
-use Rattle.plans.proofs.parts.plan_of.Lts as lts
-use Rattle.plans.proofs.parts.free_plan.Reads as free_plan_reads
-use Rattle.plans.proofs.parts.waiting_plan.Reads as waiting_plan_reads
+use Rattle.plans.proofs.StepLaws.{waiting_code, free_code, free_plans}
 use Rattle.plans.proofs.parts.plan_of.Goals.{in_default-via-then-code-lt4, in_default-via-else-code-lt4+else-code-lt6, in-8-1, in_default+else-code-lt4+then-code-lt6}
 use Rattle.plans.proofs.parts.plan_of.Goals as goal
 

@@ -1,9 +1,7 @@
 -- By the quotient's case.
 -- Assumes nothing.
-use Rattle.std.proofs.Common.{sym, ap, rules}
+use Rattle.std.proofs.Common.{sym, ap}
 use Rattle.plans.specs.Steps.{quotient_plan}
-use Rattle.plans.proofs.parts.quotient_plan.Reads as reads
-use Rattle.plans.proofs.parts.quotient_plan.Lts as lts
 use Rattle.plans.proofs.parts.quotient_plan.Goals as goal
 
 pub returns-in-Fault : goal.returns-in-Fault

@@ -1,12 +1,8 @@
 -- By what comes of the access.
 -- Assumes nothing.
-use Rattle.std.proofs.Common.{get_or, sym, ap, ◌∙◌, subst, rules}
+use Rattle.std.proofs.Common.{get_or, sym, ap, ◌∙◌, subst}
 use Rattle.plans.specs.Steps.{looking, AccessAs}
 use Rattle.plans.proofs.StepLaws.{store_fault, store_held, store_free}
-use Rattle.plans.proofs.parts.store_plan.Reads as reads
-use Rattle.plans.proofs.parts.store_plan.Lts as lts
-use Rattle.plans.proofs.parts.access_of.Reads as access_of_reads
-use Rattle.grants.proofs.register_at.Reads as register_at_reads
 use Rattle.plans.proofs.parts.store_plan.Goals as goal
 
 pub returns-in-Fault : goal.returns-in-Fault

@@ -1,14 +1,8 @@
 -- By the instruction's case.
 -- Assumes nothing.
-use Rattle.std.proofs.Common.{sym, subst, rules}
+use Rattle.std.proofs.Common.{sym, subst}
 use Rattle.plans.specs.declared.StepPlan.TheVariants.{Pass}
 use Rattle.plans.specs.Steps.{looking, WaitAs}
-use Rattle.plans.proofs.parts.waiting_plan.Reads as reads
-use Rattle.plans.proofs.parts.waiting_plan.Lts as lts
-use Rattle.plans.proofs.parts.load_plan.Reads as load_plan_reads
-use Rattle.plans.proofs.parts.store_plan.Reads as store_plan_reads
-use Rattle.plans.proofs.parts.wait_plan.Reads as wait_plan_reads
-use Rattle.plans.proofs.parts.sum_plan.Reads as sum_plan_reads
 use Rattle.plans.proofs.parts.waiting_plan.Goals as goal
 
 pub returns-in-Load : goal.returns-in-Load

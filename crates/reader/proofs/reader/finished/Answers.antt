@@ -1,14 +1,14 @@
 -- The count decides, and the tables are the list's.
 -- Assumes nothing.
 use Rattle.reader.specs.Rows.{footprint_rows, body_rows}
-use Rattle.tasklist.specs.Answers.{ReadAs, refusal_number}
+use Rattle.tasklist.specs.Answers.{ReadAs}
 use Rattle.tasklist.specs.Tables.{capped, list_of}
 use Rattle.tasklist.specs.TaskList.{task_count}
 use Rattle.reader.proofs.ReadingLaws.{sized_many, accepted_reading}
 use Rattle.tasklist.proofs.PlaceLaws.{get_d_default}
-use lib.ListN.{length, drop, get_or}
+use lib.ListN.{get_or}
 use native.Mathlib.Omega.{arith}
-use mathlib.Core.Path.{◌≡◌, refl, sym, ap, ◌∙◌, subst}
+use mathlib.Core.Path.{◌≡◌, sym, ◌∙◌, subst}
 use borrow.Author.Rules.{rules}
 use Rattle.reader.proofs.reader.finished.Goals as goal
 

@@ -5,10 +5,8 @@ use Rattle.tasklist.specs.Answers.{refusal_number}
 use Rattle.tasklist.specs.Decode.{head_numbers}
 use Rattle.tasklist.specs.Fields.{bad, took, number}
 use Rattle.taking.proofs.FieldLaws.{told}
-use lib.ListN.{length, drop, get_or}
-use native.Mathlib.Omega.{arith}
-use mathlib.Core.Path.{◌≡◌, refl, sym, ap, ◌∙◌, subst}
-use borrow.Author.Rules.{rules}
+use lib.ListN.{drop}
+use mathlib.Core.Path.{◌≡◌, refl}
 use Rattle.reader.proofs.reader.head_numbers.Goals as goal
 
 pub returns-in-Bad : goal.returns-in-Bad

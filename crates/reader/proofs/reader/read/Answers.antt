@@ -4,10 +4,8 @@ use Rattle.reader.specs.Rows.{head_taken}
 use Rattle.tasklist.specs.Answers.{ReadAs, refusal_number}
 use Rattle.tasklist.proofs.ReaderLaws.{head_range, decode_none, decode_head_bad, decode_behind}
 use Rattle.taking.proofs.FieldLaws.{told}
-use lib.ListN.{length, drop, get_or}
-use native.Mathlib.Omega.{arith}
-use mathlib.Core.Path.{◌≡◌, refl, sym, ap, ◌∙◌, subst}
-use borrow.Author.Rules.{rules}
+use lib.ListN.{drop}
+use mathlib.Core.Path.{sym, subst}
 use Rattle.reader.proofs.reader.read.Goals as goal
 
 pub returns-then-bytes-eq0 : goal.returns-then-bytes-eq0

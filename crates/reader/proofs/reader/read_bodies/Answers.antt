@@ -1,21 +1,20 @@
 -- Body by body, instruction by instruction: the loops' invariants say what is still to be taken (RowLaws).
 -- Assumes nothing.
-use Rattle.reader.proofs.RowLaws.{Behind, Within, rows_open, row_bad, row_opens, item_bad, item_kept, row_closes, rows_close}
+use Rattle.reader.proofs.RowLaws.{rows_open, row_bad, row_opens, item_bad, item_kept, row_closes, rows_close}
 use Rattle.tasklist.proofs.TakenLaws.{counted_most}
 use Rattle.taking.proofs.FieldLaws.{told}
 use Rattle.taking.specs.Positions.{number_taken, instruction_taken}
 use Rattle.tasklist.specs.Answers.{refusal_number}
 use Rattle.tasklist.specs.Tables.{rows, instructions}
-use Rattle.tasklist.specs.Decode.{instruction, body}
-use Rattle.tasklist.specs.Fields.{Taken, took, bad, counted, many, row}
+use Rattle.tasklist.specs.Decode.{body}
 use Rattle.tasklist.specs.declared.Cell.{Cell}
 use Rattle.tasklist.specs.declared.Instruction.{Instruction}
-use lib.ListN.{length, take, drop, set, length-set}
-use mathlib.Core.List.{List, [], ◌∷◌}
-use Prim.Native.Nat.{ℕ, ◌+◌, ◌-◌, ◌*◌, ◌≤◌, ◌<◌}
+use lib.ListN.{drop, length-set}
+use mathlib.Core.List.{[]}
+use Prim.Native.Nat.{◌+◌, ◌*◌}
 use borrow.Author.Rules.{rules}
 use native.Mathlib.Omega.{arith}
-use mathlib.Core.Path.{◌≡◌, refl, sym, ap, ◌∙◌}
+use mathlib.Core.Path.{refl, sym, ◌∙◌}
 use Rattle.reader.proofs.reader.read_bodies.Invariants.{item, all_of}
 use Rattle.reader.proofs.reader.read_bodies.Goals as goal
 

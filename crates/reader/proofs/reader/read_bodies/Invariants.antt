@@ -1,19 +1,12 @@
-use Rattle.reader.proofs.RowLaws.{Behind, Within, rows_open, row_bad, row_opens, item_bad, item_kept, row_closes, rows_close}
-use Rattle.tasklist.proofs.TakenLaws.{counted_most}
-use Rattle.taking.proofs.FieldLaws.{told}
-use Rattle.taking.specs.Positions.{number_taken, instruction_taken}
-use Rattle.tasklist.specs.Answers.{refusal_number}
-use Rattle.tasklist.specs.Tables.{rows, instructions}
-use Rattle.tasklist.specs.Decode.{instruction, body}
-use Rattle.tasklist.specs.Fields.{Taken, took, bad, counted, many, row}
-use Rattle.tasklist.specs.declared.Cell.{Cell}
+use Rattle.reader.proofs.RowLaws.{Behind, Within}
+use Rattle.tasklist.specs.Tables.{instructions}
+use Rattle.tasklist.specs.Decode.{instruction}
+use Rattle.tasklist.specs.Fields.{Taken, many, row}
 use Rattle.tasklist.specs.declared.Instruction.{Instruction}
-use lib.ListN.{length, take, drop, set, length-set}
-use mathlib.Core.List.{List, [], ◌∷◌}
-use Prim.Native.Nat.{ℕ, ◌+◌, ◌-◌, ◌*◌, ◌≤◌, ◌<◌}
-use borrow.Author.Rules.{rules}
-use native.Mathlib.Omega.{arith}
-use mathlib.Core.Path.{◌≡◌, refl, sym, ap, ◌∙◌}
+use lib.ListN.{length, drop}
+use mathlib.Core.List.{List, []}
+use Prim.Native.Nat.{ℕ, ◌-◌, ◌≤◌, ◌<◌}
+use mathlib.Core.Path.{◌≡◌}
 use Rattle.reader.proofs.reader.read_bodies.Given as goal
 
 -- item i of body s, which has n of them: an instruction

@@ -1,7 +1,6 @@
 -- Blank tables with one location and one body.
 -- Assumes nothing.
 use Rattle.reader.proofs.ReadingLaws.{empty_reading}
-use borrow.Author.Rules.{rules}
 use Rattle.reader.proofs.reader.read_empty.Goals as goal
 
 pub returns : goal.returns

@@ -1,18 +1,11 @@
-use Rattle.reader.proofs.RowLaws.{Behind, Within, rows_open, row_bad, row_opens, item_bad, item_took, row_closes, rows_close}
-use Rattle.tasklist.proofs.TakenLaws.{counted_most}
-use Rattle.taking.proofs.FieldLaws.{told}
-use Rattle.taking.specs.Positions.{number_taken, line_taken}
-use Rattle.tasklist.specs.Answers.{refusal_number}
-use Rattle.tasklist.specs.Tables.{rows}
+use Rattle.reader.proofs.RowLaws.{Behind, Within}
 use Rattle.tasklist.specs.Decode.{line, footprint}
-use Rattle.tasklist.specs.Fields.{Taken, took, bad, counted, many, row}
+use Rattle.tasklist.specs.Fields.{Taken, many}
 use Rattle.tasklist.specs.declared.Line.{Line}
-use lib.ListN.{length, take, drop, set, length-set}
-use mathlib.Core.List.{List, [], ◌∷◌}
-use Prim.Native.Nat.{ℕ, ◌+◌, ◌-◌, ◌*◌, ◌≤◌, ◌<◌}
-use borrow.Author.Rules.{rules}
-use native.Mathlib.Omega.{arith}
-use mathlib.Core.Path.{◌≡◌, refl, sym, ap, ◌∙◌}
+use lib.ListN.{length, drop}
+use mathlib.Core.List.{List, []}
+use Prim.Native.Nat.{ℕ, ◌-◌, ◌≤◌, ◌<◌}
+use mathlib.Core.Path.{◌≡◌}
 use Rattle.reader.proofs.reader.read_footprints.Given as goal
 
 -- item i of footprint s: a line

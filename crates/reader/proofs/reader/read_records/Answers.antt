@@ -6,10 +6,9 @@ use Rattle.tasklist.specs.Answers.{ReadAs, refusal_number}
 use Rattle.tasklist.proofs.ReaderLaws.{finish_leftover, finish_footprints_bad, finish_bodies_bad, finish_whole}
 use Rattle.taking.proofs.FieldLaws.{told}
 use lib.ListN.{length-drop}
-use lib.ListN.{length, drop, get_or}
+use lib.ListN.{drop}
 use native.Mathlib.Omega.{arith}
-use mathlib.Core.Path.{◌≡◌, refl, sym, ap, ◌∙◌, subst}
-use borrow.Author.Rules.{rules}
+use mathlib.Core.Path.{sym, subst}
 use Rattle.reader.proofs.reader.read_records.Goals as goal
 
 pub returns-then-left-gt0 : goal.returns-then-left-gt0

@@ -1,9 +1,7 @@
 -- Case by case.
 -- Assumes nothing.
-use Rattle.std.proofs.Common.{get_or, sym, ap, arith, rules}
+use Rattle.std.proofs.Common.{get_or, sym, ap, arith}
 use Rattle.tasklist.specs.Encode.{instruction_fields}
-use Rattle.records.proofs.codes.code_of.Reads as reads
-use Rattle.records.proofs.codes.code_of.Lts as lts
 use Rattle.records.proofs.codes.code_of.Goals as goal
 
 pub returns-in-Const : goal.returns-in-Const

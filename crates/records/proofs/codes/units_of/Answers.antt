@@ -1,6 +1,6 @@
 -- Case by case.
 -- Assumes nothing.
-use Rattle.std.proofs.Common.{sym, ap, ◌∙◌, arith, rules}
+use Rattle.std.proofs.Common.{sym, ap, ◌∙◌, arith}
 use Rattle.semantics.specs.Plan.{units}
 use Rattle.records.proofs.codes.units_of.Goals as goal
 

@@ -1,10 +1,8 @@
 -- By the tests.
 -- Assumes nothing.
-use Rattle.std.proofs.Common.{refl, rules}
+use Rattle.std.proofs.Common.{refl}
 use Rattle.semantics.specs.Rounding.{rounded}
 use Rattle.records.proofs.QuotientLaws.{zero_divisor, large_result, small_result}
-use Rattle.records.proofs.quotients.divided.Reads as reads
-use Rattle.records.proofs.quotients.divided.Lts as lts
 use Rattle.records.proofs.quotients.divided.Goals as goal
 
 pub returns-then-d-eq0 : goal.returns-then-d-eq0

@@ -2,9 +2,6 @@
 -- Assumes nothing.
 use Rattle.std.proofs.Common.{arith, rules}
 use Rattle.semantics.proofs.Rounding.{product_fits}
-use Rattle.records.proofs.quotients.product.Reads as reads
-use Rattle.records.proofs.quotients.product.Lts as lts
-use Rattle.records.proofs.quotients.divided.Reads as divided_reads
 use Rattle.records.proofs.quotients.product.Goals as goal
 
 pub overflow_mul-n : goal.overflow_mul-n

@@ -1,6 +1,6 @@
 -- The registers are those of the part.
 -- Assumes nothing.
-use Rattle.std.proofs.Common.{ap, rules}
+use Rattle.std.proofs.Common.{ap}
 use Rattle.records.proofs.record.child_record.Goals as goal
 
 pub returns : goal.returns

@@ -1,9 +1,6 @@
 -- The steps are one more.
 -- Assumes nothing.
-use Rattle.std.proofs.Common.{ℕ, ap, rules}
-use Rattle.records.proofs.record.failed.Reads as reads
-use Rattle.records.proofs.record.failed.Lts as lts
-use Rattle.std.proofs.num.wrapping_add_u32.Reads as wrapping_add_u32_reads
+use Rattle.std.proofs.Common.{ℕ, ap}
 use Rattle.records.proofs.record.failed.Goals as goal
 
 pub returns : goal.returns

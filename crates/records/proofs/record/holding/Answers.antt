@@ -1,9 +1,6 @@
 -- The registers are those of the part.
 -- Assumes nothing.
-use Rattle.std.proofs.Common.{ap, rules}
-use Rattle.records.proofs.record.holding.Reads as reads
-use Rattle.records.proofs.record.holding.Lts as lts
-use Rattle.records.proofs.record.with_register.Reads as with_register_reads
+use Rattle.std.proofs.Common.{ap}
 use Rattle.records.proofs.record.holding.Goals as goal
 
 pub returns : goal.returns

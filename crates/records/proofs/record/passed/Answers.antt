@@ -1,9 +1,6 @@
 -- Field by field.
 -- Assumes nothing.
 use Rattle.std.proofs.Common.{rules}
-use Rattle.records.proofs.record.passed.Reads as reads
-use Rattle.records.proofs.record.passed.Lts as lts
-use Rattle.std.proofs.num.wrapping_add_u32.Reads as wrapping_add_u32_reads
 use Rattle.records.proofs.record.passed.Goals as goal
 
 pub returns : goal.returns

@@ -1,9 +1,7 @@
 -- A place past the last changes nothing.
 -- Assumes nothing.
-use Rattle.std.proofs.Common.{sym, refl, arith, rules}
+use Rattle.std.proofs.Common.{sym, refl, arith}
 use lib.Seq.{set_out}
-use Rattle.records.proofs.record.with_register.Reads as reads
-use Rattle.records.proofs.record.with_register.Lts as lts
 use Rattle.records.proofs.record.with_register.Goals as goal
 
 pub returns-then-at-gt3 : goal.returns-then-at-gt3

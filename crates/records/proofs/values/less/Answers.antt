@@ -1,9 +1,6 @@
 -- By the test.
 -- Assumes nothing.
 use Rattle.records.proofs.ValueLaws.{is_less, not_less}
-use Rattle.std.proofs.Common.{rules}
-use Rattle.records.proofs.values.less.Reads as reads
-use Rattle.records.proofs.values.less.Lts as lts
 use Rattle.records.proofs.values.less.Goals as goal
 
 pub returns-then-left-right : goal.returns-then-left-right

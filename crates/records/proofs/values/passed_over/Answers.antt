@@ -1,9 +1,6 @@
 -- By the test.
 -- Assumes nothing.
 use Rattle.records.proofs.ValueLaws.{over_zero, over_none}
-use Rattle.std.proofs.Common.{rules}
-use Rattle.records.proofs.values.passed_over.Reads as reads
-use Rattle.records.proofs.values.passed_over.Lts as lts
 use Rattle.records.proofs.values.passed_over.Goals as goal
 
 pub returns-then-test-eq0 : goal.returns-then-test-eq0

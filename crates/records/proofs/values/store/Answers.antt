@@ -1,9 +1,7 @@
 -- A place past the last changes nothing.
 -- Assumes nothing.
-use Rattle.std.proofs.Common.{sym, arith, rules}
+use Rattle.std.proofs.Common.{sym, arith}
 use lib.Seq.{set_out}
-use Rattle.records.proofs.values.store.Reads as reads
-use Rattle.records.proofs.values.store.Lts as lts
 use Rattle.records.proofs.values.store.Goals as goal
 
 pub returns-then-location-gt63 : goal.returns-then-location-gt63

@@ -1,11 +1,9 @@
 -- A place past the last changes nothing.
 -- Assumes nothing.
-use Rattle.std.proofs.Common.{get_or, set, sym, ap, ◌∙◌, arith, rules}
+use Rattle.std.proofs.Common.{get_or, set, sym, ap, ◌∙◌, arith}
 use lib.Seq.{set_out}
 use Rattle.semantics.specs.Call.{sum_of}
 use Rattle.records.proofs.ValueLaws.{sum_set}
-use Rattle.records.proofs.values.sum.Reads as reads
-use Rattle.records.proofs.values.sum.Lts as lts
 use Rattle.records.proofs.values.sum.Goals as goal
 
 pub returns-then-location-gt63 : goal.returns-then-location-gt63

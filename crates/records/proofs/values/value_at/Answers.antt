@@ -1,9 +1,7 @@
 -- A place, or none.
 -- Assumes nothing.
-use Rattle.std.proofs.Common.{◌≤◌, length, sym, refl, arith, rules}
+use Rattle.std.proofs.Common.{◌≤◌, length, sym, refl, arith}
 use lib.ListN.{get_or-eq_default}
-use Rattle.records.proofs.values.value_at.Reads as reads
-use Rattle.records.proofs.values.value_at.Lts as lts
 use Rattle.records.proofs.values.value_at.Goals as goal
 
 pub returns-then-location-gt63 : goal.returns-then-location-gt63

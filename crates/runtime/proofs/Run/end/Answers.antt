@@ -1,19 +1,12 @@
-use Rattle.std.proofs.Common.{◌≡◌, ℕ, length, refl, ◌∙◌, rules}
+use Rattle.std.proofs.Common.{◌≡◌, length, refl, ◌∙◌}
 use Rattle.tasklist.specs.TaskList.{body_of}
 use Rattle.tasklist.specs.Tables.{list_of}
-use Rattle.tasklist.specs.contracts.Cell.{the_type as the_cell}
-use Rattle.tasklist.proofs.PlaceLaws.{length_lowered}
 use Rattle.listing.proofs.AccessLaws.{body_size_is}
 use Rattle.runtime.specs.View.{parts_of}
 use Rattle.runtime.specs.Parts.{record_of}
 use Rattle.looks.specs.Looks.{ordered}
 use Rattle.semantics.specs.Plan.{«end»}
 use Rattle.runtime.proofs.MethodLaws.{call_refused, call_accepted}
-use Rattle.runtime.proofs.Run.end.Reads as reads
-use Rattle.runtime.proofs.Run.end.Lts as lts
-use Rattle.listing.proofs.row_size.Reads as row_size_reads
-use Rattle.changes.proofs.end_change.Reads as end_change_reads
-use Rattle.std.proofs.num.wrapping_add_u32.Reads as wrapping_add_u32_reads
 use Rattle.runtime.proofs.Run.end.Goals as goal
 
 pub returns-then-task-gt127 : goal.returns-then-task-gt127

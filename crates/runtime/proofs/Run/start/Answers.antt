@@ -1,11 +1,7 @@
-use Rattle.std.proofs.Common.{refl, rules}
+use Rattle.std.proofs.Common.{refl}
 use Rattle.semantics.specs.Plan.{start}
 use Rattle.runtime.specs.View.{parts_of}
 use Rattle.runtime.proofs.MethodLaws.{call_refused, call_accepted}
-use Rattle.runtime.proofs.Run.start.Reads as reads
-use Rattle.runtime.proofs.Run.start.Lts as lts
-use Rattle.changes.proofs.start_change.Reads as start_change_reads
-use Rattle.std.proofs.num.wrapping_add_u32.Reads as wrapping_add_u32_reads
 use Rattle.runtime.proofs.Run.start.Goals as goal
 
 pub returns-then-task-gt127 : goal.returns-then-task-gt127

@@ -1,8 +1,8 @@
 -- A number above 127, refused, or the change put into the run: the task's own record, then those of the tasks made.
 -- Assumes nothing.
-use Rattle.std.proofs.Common.{◌+◌, ◌-◌, ◌*◌, ◌<◌, arith, rules}
+use Rattle.std.proofs.Common.{◌+◌, ◌-◌, ◌*◌, ◌<◌, arith}
 use Rattle.semantics.specs.Plan.{step}
-use Rattle.steps.proofs.ChildrenLaws.{ChildrenLeft, children_all, child_written, children_written}
+use Rattle.steps.proofs.ChildrenLaws.{children_all, child_written, children_written}
 use Rattle.runtime.proofs.MethodLaws.{stepped_refused, stepped_taken}
 use Rattle.runtime.proofs.Run.step.Goals.{After-child_record-born}
 use Rattle.runtime.proofs.Run.step.Goals as goal

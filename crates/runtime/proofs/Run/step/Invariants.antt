@@ -1,7 +1,4 @@
-use Rattle.std.proofs.Common.{◌+◌, ◌-◌, ◌*◌, ◌<◌, arith, rules}
-use Rattle.semantics.specs.Plan.{step}
-use Rattle.steps.proofs.ChildrenLaws.{ChildrenLeft, children_all, child_written, children_written}
-use Rattle.runtime.proofs.MethodLaws.{stepped_refused, stepped_taken}
+use Rattle.steps.proofs.ChildrenLaws.{ChildrenLeft}
 use Rattle.runtime.proofs.Run.step.Given as goal
 
 abbrev pub invariant-loop-i : goal.invariant-loop-i

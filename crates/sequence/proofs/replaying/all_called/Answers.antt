@@ -1,8 +1,4 @@
-use Rattle.std.proofs.Common.{◌-◌, length, rules}
-use Rattle.sequence.proofs.ReplayLaws.{Left, left_all, left_none_kinds, left_none_tasks, left_less}
-use Rattle.sequence.proofs.replaying.all_called.Reads as reads
-use Rattle.sequence.proofs.replaying.all_called.Lts as lts
-use Rattle.sequence.proofs.replaying.called.Reads as called_reads
+use Rattle.sequence.proofs.ReplayLaws.{left_all, left_none_kinds, left_none_tasks, left_less}
 use Rattle.sequence.proofs.replaying.all_called.Goals as goal
 
 -- src/replaying.rt:34:5

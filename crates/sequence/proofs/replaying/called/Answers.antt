@@ -1,7 +1,6 @@
 use Rattle.semantics.specs.Plan.{start, step, «end»}
 use Rattle.runtime.proofs.CallLaws.{one_call}
 use Rattle.runtime.proofs.MadeLaws.{kind_start, kind_step, kind_end, kind_none}
-use Rattle.std.proofs.Common.{rules}
 use Rattle.sequence.proofs.replaying.called.Goals as goal
 
 pub returns-then-kind-eq0 : goal.returns-then-kind-eq0

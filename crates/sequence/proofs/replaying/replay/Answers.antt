@@ -1,10 +1,5 @@
 use Rattle.sequence.specs.Replays.{calls_of}
 use Rattle.sequence.proofs.ReplayLaws.{replay_refused, replay_made}
-use Rattle.std.proofs.Common.{rules}
-use Rattle.sequence.proofs.replaying.replay.Reads as reads
-use Rattle.sequence.proofs.replaying.replay.Lts as lts
-use Rattle.fresh.proofs.open.Reads as open_reads
-use Rattle.sequence.proofs.replaying.all_called.Reads as all_called_reads
 use Rattle.sequence.proofs.replaying.replay.Goals as goal
 
 -- src/replaying.rt:52:9

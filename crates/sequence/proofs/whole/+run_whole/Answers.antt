@@ -1,6 +1,4 @@
-use Rattle.std.proofs.Common.{◌≡◌, ℕ, ◌+◌, ◌-◌, ◌<◌, refl, ◌∙◌, subst, pos_of_ne-zero, arith, rules}
-use Rattle.tasklist.specs.contracts.Cell.{the_type as the_cell}
-use Rattle.tasklist.proofs.PlaceLaws.{length_lowered}
+use Rattle.std.proofs.Common.{◌≡◌, ◌+◌, ◌-◌, ◌<◌, refl, ◌∙◌, subst, pos_of_ne-zero, arith}
 use Rattle.listing.proofs.AccessLaws.{body_size_is}
 use Rattle.semantics.specs.Run.{task_of}
 use Rattle.semantics.specs.Plan.{at_end}
@@ -8,7 +6,7 @@ use Rattle.runtime.specs.View.{parts_of, model, context_of, SoundRun}
 use Rattle.runtime.specs.Parts.{record_of}
 use Rattle.looks.proofs.LookLaws.{ends}
 use Rattle.sequence.specs.Replays.{joined}
-use Rattle.sequence.proofs.SequentialLaws.{onward, start_joined, step_joined, makes_joined, end_joined, Writing, writing_all, writing_one, writing_done, enough_steps, StepsLeft, steps_all, EachLeft, each_all, each_one, turn_ended, turn_taken, whole_none, whole_spent}
+use Rattle.sequence.proofs.SequentialLaws.{onward, start_joined, step_joined, makes_joined, end_joined, writing_all, writing_one, writing_done, enough_steps, steps_all, each_all, each_one, turn_ended, turn_taken, whole_none, whole_spent}
 use Rattle.sequence.proofs.whole.+run_whole.Goals as goal
 
 pub returns-then-bodies-eq0 : goal.returns-then-bodies-eq0

@@ -1,11 +1,5 @@
 use Rattle.sequence.specs.Replays.{joined}
 use Rattle.sequence.proofs.SequentialLaws.{sequential_refused, sequential_made}
-use Rattle.std.proofs.Common.{rules}
-use Rattle.sequence.proofs.whole.sequential.Reads as reads
-use Rattle.sequence.proofs.whole.sequential.Lts as lts
-use Rattle.listing.proofs.body_count.Reads as body_count_reads
-use Rattle.fresh.proofs.open.Reads as open_reads
-use Rattle.sequence.proofs.whole.run_whole.Reads as run_whole_reads
 use Rattle.sequence.proofs.whole.sequential.Goals as goal
 
 -- src/whole.rt:93:9

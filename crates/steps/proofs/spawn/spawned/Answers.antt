@@ -1,10 +1,9 @@
 -- Denied, no room, or the tasks made.
 -- Assumes nothing.
-use Prim.Native.Nat.{ℕ, ◌+◌, ◌≤◌, ◌<◌}
+use Prim.Native.Nat.{◌+◌}
 use mathlib.Core.Path.{◌≡◌, refl, sym, ap, subst, ◌∙◌}
 use native.Mathlib.Omega.{arith}
 use lib.ListN.{set}
-use borrow.Author.Tests.{not-true, not-false}
 use Rattle.tasklist.specs.TaskList.{footprint_of}
 use Rattle.tasklist.specs.Tables.{list_of}
 use Rattle.semantics.specs.declared.Record.{Record}
@@ -19,7 +18,6 @@ use Rattle.looks.specs.Looks.{with_parts}
 use Rattle.changes.specs.Changes.{counted}
 use Rattle.steps.proofs.SpawnLaws.{spawn_denied, spawn_full, spawn_made, fit_fits}
 use Rattle.steps.proofs.TakenLaws.{none_fits}
-use borrow.Author.Rules.{rules}
 use Rattle.steps.proofs.spawn.spawned.Goals.{After-granted_all-granting, Else-not-fit}
 use Rattle.steps.proofs.spawn.spawned.Goals as goal
 

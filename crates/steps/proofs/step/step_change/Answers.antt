@@ -7,8 +7,6 @@ use lib.ListN.{length, take, get_or}
 use Rattle.tasklist.specs.declared.Instruction.{Instruction}
 use Rattle.tasklist.specs.TaskList.{body_of}
 use Rattle.tasklist.specs.Tables.{list_of, blank_cell}
-use Rattle.tasklist.specs.contracts.Cell.{the_type as the_cell}
-use Rattle.tasklist.proofs.PlaceLaws.{length_lowered}
 use Rattle.listing.proofs.AccessLaws.{body_size_is, instruction_is}
 use Rattle.looks.specs.declared.Located.TheVariants.{At}
 use Rattle.looks.specs.Looks.{ReadyIn}

@@ -1,13 +1,12 @@
 -- No place, none to make, a number too large, or by the last.
 -- Assumes nothing.
-use Prim.Native.Nat.{◌+◌, ◌*◌, ◌-◌, ◌≤◌, ◌<◌}
+use Prim.Native.Nat.{◌*◌, ◌-◌}
 use mathlib.Core.Path.{◌≡◌}
 use mathlib.Core.Bool.{true≢false, false≢true}
 use native.Mathlib.Omega.{arith}
 use native.Mathlib.Nat.{zero-mul}
 use Rattle.tasklist.proofs.CountLaws.{product_small}
 use Rattle.tables.proofs.ChildLaws.{fit_all}
-use borrow.Author.Rules.{rules}
 use Rattle.tables.proofs.children.fits.Goals as goal
 
 pub returns-then-left-gt128 : goal.returns-then-left-gt128

@@ -1,12 +1,10 @@
 -- The rows and places of the first i children are left to put.
 -- Assumes nothing.
-use Prim.Native.Nat.{◌+◌, ◌-◌, ◌*◌, ◌≤◌, ◌<◌}
-use mathlib.Core.Path.{◌≡◌, refl}
+use Prim.Native.Nat.{◌+◌, ◌*◌}
 use native.Mathlib.Omega.{arith}
 use Rattle.tasklist.specs.TaskList.{footprint_of}
 use Rattle.tasklist.specs.Tables.{list_of}
-use Rattle.tables.proofs.ChildLaws.{ToPut, to_put_all, next_number, put_one, rows_put, places_put}
-use borrow.Author.Rules.{rules}
+use Rattle.tables.proofs.ChildLaws.{to_put_all, next_number, put_one, rows_put, places_put}
 use Rattle.tables.proofs.children.put_children.Goals as goal
 
 pub loop-i-init : goal.loop-i-init

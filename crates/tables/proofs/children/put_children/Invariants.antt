@@ -1,10 +1,6 @@
-use Prim.Native.Nat.{◌+◌, ◌-◌, ◌*◌, ◌≤◌, ◌<◌}
-use mathlib.Core.Path.{◌≡◌, refl}
-use native.Mathlib.Omega.{arith}
 use Rattle.tasklist.specs.TaskList.{footprint_of}
 use Rattle.tasklist.specs.Tables.{list_of}
-use Rattle.tables.proofs.ChildLaws.{ToPut, to_put_all, next_number, put_one, rows_put, places_put}
-use borrow.Author.Rules.{rules}
+use Rattle.tables.proofs.ChildLaws.{ToPut}
 use Rattle.tables.proofs.children.put_children.Given as goal
 
 abbrev pub invariant-loop-i : goal.invariant-loop-i

@@ -5,7 +5,6 @@ use native.Mathlib.Omega.{arith}
 use Rattle.tasklist.specs.TaskList.{footprint_of}
 use Rattle.tasklist.specs.Tables.{list_of}
 use Rattle.tables.proofs.ChildLaws.{row_given}
-use borrow.Author.Rules.{rules}
 use Rattle.tables.proofs.children.row_ahead.Goals as goal
 
 pub returns-then-i-eq0 : goal.returns-then-i-eq0

@@ -1,15 +1,13 @@
 -- The number with the first i instructions counted.
 -- Assumes nothing.
-use Prim.Native.Nat.{◌+◌, ◌-◌, ◌*◌, ◌≤◌, ◌<◌}
+use Prim.Native.Nat.{◌+◌, ◌*◌, ◌<◌}
 use mathlib.Core.Path.{◌≡◌, ◌∙◌}
 use native.Mathlib.Omega.{arith}
 use lib.ListN.{length, get_or}
 use Rattle.tasklist.specs.TaskList.{body_of}
 use Rattle.tasklist.specs.Tables.{list_of, blank_cell}
-use Rattle.tasklist.specs.contracts.Cell.{the_type as the_cell}
-use Rattle.tasklist.proofs.PlaceLaws.{length_lowered}
 use Rattle.listing.proofs.AccessLaws.{body_size_is, instruction_is}
-use Rattle.tables.proofs.NumberLaws.{Counted, counted_none, counted_more, counted_all, counted_ahead}
+use Rattle.tables.proofs.NumberLaws.{counted_none, counted_more, counted_all, counted_ahead}
 use borrow.Author.Rules.{rules}
 use Rattle.tables.proofs.number.child_number.Goals as goal
 

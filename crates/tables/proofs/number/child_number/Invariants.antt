@@ -1,14 +1,9 @@
 use Prim.Native.Nat.{◌+◌, ◌-◌, ◌*◌, ◌≤◌, ◌<◌}
-use mathlib.Core.Path.{◌≡◌, ◌∙◌}
-use native.Mathlib.Omega.{arith}
-use lib.ListN.{length, get_or}
+use mathlib.Core.Path.{◌≡◌}
+use lib.ListN.{length}
 use Rattle.tasklist.specs.TaskList.{body_of}
-use Rattle.tasklist.specs.Tables.{list_of, blank_cell}
-use Rattle.tasklist.specs.contracts.Cell.{the_type as the_cell}
-use Rattle.tasklist.proofs.PlaceLaws.{length_lowered}
-use Rattle.listing.proofs.AccessLaws.{body_size_is, instruction_is}
-use Rattle.tables.proofs.NumberLaws.{Counted, counted_none, counted_more, counted_all, counted_ahead}
-use borrow.Author.Rules.{rules}
+use Rattle.tasklist.specs.Tables.{list_of}
+use Rattle.tables.proofs.NumberLaws.{Counted}
 use Rattle.tables.proofs.number.child_number.Given as goal
 
 abbrev pub invariant-loop-i : goal.invariant-loop-i

@@ -3,8 +3,7 @@
 use Rattle.taking.proofs.InstructionLaws.{line_limit_other, past}
 use Prim.Native.Nat.{zero-le}
 use Rattle.tasklist.specs.Decode.{line_limit}
-use native.Mathlib.Omega.{arith}
-use mathlib.Core.Path.{◌≡◌, refl, sym, ap, ◌∙◌}
+use mathlib.Core.Path.{refl, sym}
 use Rattle.taking.proofs.fields.limit_of.Goals as goal
 
 pub returns-in-0 : goal.returns-in-0

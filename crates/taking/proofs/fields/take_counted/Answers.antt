@@ -4,9 +4,7 @@ use Rattle.taking.specs.Positions.{tag_taken}
 use Rattle.tasklist.specs.Answers.{refusal_number}
 use lib.ListN.{drop}
 use Rattle.taking.proofs.FieldLaws.{counted_bad, counted_tagged, told}
-use native.Mathlib.Omega.{arith}
-use mathlib.Core.Path.{◌≡◌, refl, sym, ap, ◌∙◌}
-use borrow.Author.Rules.{rules}
+use mathlib.Core.Path.{sym, ◌∙◌}
 use Rattle.taking.proofs.fields.take_counted.Goals as goal
 
 pub returns-in-Bad : goal.returns-in-Bad

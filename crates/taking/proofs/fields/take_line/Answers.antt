@@ -2,8 +2,7 @@
 -- Assumes nothing.
 use Rattle.taking.proofs.FieldLaws.{line_short, line_took, line_bad}
 use native.Mathlib.Omega.{arith}
-use mathlib.Core.Path.{◌≡◌, refl, sym, ap, ◌∙◌}
-use borrow.Author.Rules.{rules}
+use mathlib.Core.Path.{sym}
 use Rattle.taking.proofs.fields.take_line.Goals as goal
 
 pub returns-then-rest-lt2 : goal.returns-then-rest-lt2

@@ -3,8 +3,7 @@
 use Rattle.tasklist.specs.Answers.{refusal_number}
 use Rattle.taking.proofs.FieldLaws.{number_short, number_low, number_high, number_took}
 use native.Mathlib.Omega.{arith}
-use mathlib.Core.Path.{◌≡◌, refl, sym, ap, ◌∙◌}
-use borrow.Author.Rules.{rules}
+use mathlib.Core.Path.{sym}
 use Rattle.taking.proofs.fields.take_number.Goals as goal
 
 pub returns-then-left-lt1 : goal.returns-then-left-lt1

@@ -2,8 +2,7 @@
 -- Assumes nothing.
 use Rattle.taking.proofs.FieldLaws.{tag_short, tag_first, tag_second, tag_took}
 use native.Mathlib.Omega.{arith}
-use mathlib.Core.Path.{◌≡◌, refl, sym, ap, ◌∙◌}
-use borrow.Author.Rules.{rules}
+use mathlib.Core.Path.{sym}
 use Rattle.taking.proofs.fields.take_tag.Goals as goal
 
 pub returns-then-left-lt2 : goal.returns-then-left-lt2

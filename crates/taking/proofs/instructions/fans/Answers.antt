@@ -1,8 +1,7 @@
 -- Each return by the tests that led there.
 -- Assumes nothing.
 use borrow.Author.Tests.{le-leb, lt-leb}
-use mathlib.Core.Path.{◌≡◌, refl, sym, ◌∙◌}
-use borrow.Author.Rules.{rules}
+use mathlib.Core.Path.{refl, sym, ◌∙◌}
 use Rattle.taking.proofs.instructions.fans.Goals as goal
 
 pub returns-then-children-ge1 : goal.returns-then-children-ge1

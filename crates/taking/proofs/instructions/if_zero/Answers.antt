@@ -1,8 +1,7 @@
 -- The last byte decides, then the test.
 -- Assumes nothing.
 use borrow.Author.Tests.{eq-eqb, ne_eqb}
-use mathlib.Core.Path.{◌≡◌, refl, sym, ap, ◌∙◌}
-use borrow.Author.Rules.{rules}
+use mathlib.Core.Path.{refl, ◌∙◌}
 use Rattle.taking.proofs.instructions.if_zero.Goals as goal
 
 pub returns-then-byte-eq0 : goal.returns-then-byte-eq0

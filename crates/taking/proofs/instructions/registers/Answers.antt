@@ -2,7 +2,7 @@
 -- Assumes nothing.
 use Rattle.tasklist.specs.Decode.{register}
 use borrow.Author.Tests.{lt-ltb, le-ltb}
-use mathlib.Core.Path.{◌≡◌, refl, sym, ap, ◌∙◌}
+use mathlib.Core.Path.{refl}
 use Rattle.taking.proofs.instructions.registers.Goals as goal
 
 pub returns-then-b-lt4 : goal.returns-then-b-lt4

@@ -5,8 +5,7 @@ use Rattle.taking.proofs.InstructionLaws.{leb_same}
 use Prim.Native.Nat.{◌+◌, ◌-◌}
 use borrow.Author.Tests.{lt-leb, lt-ltb, le-ltb}
 use native.Mathlib.Omega.{arith}
-use mathlib.Core.Path.{◌≡◌, refl, sym, ap, ◌∙◌}
-use borrow.Author.Rules.{rules}
+use mathlib.Core.Path.{refl, sym}
 use Rattle.taking.proofs.instructions.skips.Goals as goal
 
 pub returns-then-at : goal.returns-then-at

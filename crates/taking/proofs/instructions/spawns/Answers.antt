@@ -2,7 +2,7 @@
 -- Assumes nothing.
 use Rattle.tasklist.specs.Decode.{spawn_ok}
 use borrow.Author.Tests.{lt-ltb, le-ltb}
-use mathlib.Core.Path.{◌≡◌, refl, sym, ap, ◌∙◌}
+use mathlib.Core.Path.{refl}
 use Rattle.taking.proofs.instructions.spawns.Goals as goal
 
 pub returns-then-body-at : goal.returns-then-body-at

@@ -3,8 +3,7 @@
 use Rattle.taking.specs.Positions.{formed}
 use Rattle.taking.proofs.FieldLaws.{told, instruction_short, instruction_took, instruction_bad}
 use native.Mathlib.Omega.{arith}
-use mathlib.Core.Path.{◌≡◌, refl, sym, ap, ◌∙◌}
-use borrow.Author.Rules.{rules}
+use mathlib.Core.Path.{sym}
 use Rattle.taking.proofs.instructions.take_instruction.Goals as goal
 
 pub returns-then-left-lt4 : goal.returns-then-left-lt4

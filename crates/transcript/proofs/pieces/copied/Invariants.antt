@@ -1,10 +1,7 @@
-use Prim.Native.Nat.{ℕ, ◌+◌, ◌-◌, ◌≤◌, ◌<◌}
+use Prim.Native.Nat.{◌+◌, ◌-◌, ◌≤◌}
 use mathlib.Core.Path.{◌≡◌}
 use mathlib.Core.List.{[], ◌∷◌, ◌++◌}
-use native.Mathlib.Omega.{arith}
-use lib.ListN.{length, take, length-set, replicate, length-replicate}
-use Rattle.transcript.proofs.PieceLaws.{copied_none, copied_more, copied_all}
-use borrow.Author.Rules.{rules}
+use lib.ListN.{length, take}
 use Rattle.transcript.proofs.pieces.copied.Given as goal
 
 abbrev pub invariant-loop-i : goal.invariant-loop-i

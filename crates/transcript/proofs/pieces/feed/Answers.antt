@@ -6,7 +6,6 @@ use native.Mathlib.Omega.{arith}
 use lib.ListN.{length}
 use lib.Seq.{length-take-le}
 use Rattle.transcript.proofs.PieceLaws.{within_both, joined_room, fed_idle, fed_taken}
-use borrow.Author.Rules.{rules}
 use Rattle.transcript.proofs.pieces.feed.Goals as goal
 
 pub returns-then-exceeds : goal.returns-then-exceeds

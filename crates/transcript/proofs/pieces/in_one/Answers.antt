@@ -1,7 +1,6 @@
 -- Alone, or behind the byte that waited.
 -- Assumes nothing.
 use Rattle.transcript.proofs.PieceLaws.{joined_alone, joined_behind}
-use borrow.Author.Rules.{rules}
 use Rattle.transcript.proofs.pieces.in_one.Goals as goal
 
 pub returns-in-Nothing : goal.returns-in-Nothing

@@ -1,6 +1,6 @@
 -- Each number on a line of its own.
 -- Assumes nothing.
-use Prim.Native.Nat.{◌*◌, ◌-◌, ◌^◌, ◌≤◌, ◌<◌}
+use Prim.Native.Nat.{◌^◌, ◌<◌}
 use mathlib.Core.Path.{◌≡◌, ap, ◌∙◌}
 use native.Mathlib.Omega.{arith}
 use lib.ListN.{length, take}
@@ -8,7 +8,7 @@ use lib.Seq.{sets, length-sets}
 use Rattle.tasklist.specs.Encode.{joined}
 use Rattle.wording.specs.Wording.{line}
 use Rattle.wording.proofs.DigitLaws.{byte_line_most}
-use Rattle.wording.proofs.ClosingLaws.{Lined, lined_none, lined_more}
+use Rattle.wording.proofs.ClosingLaws.{lined_none, lined_more}
 use borrow.Author.Rules.{rules}
 use Rattle.transcript.proofs.pieces.put_lines.Goals as goal
 

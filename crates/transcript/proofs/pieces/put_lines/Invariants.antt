@@ -1,13 +1,7 @@
-use Prim.Native.Nat.{◌*◌, ◌-◌, ◌^◌, ◌≤◌, ◌<◌}
-use mathlib.Core.Path.{◌≡◌, ap, ◌∙◌}
-use native.Mathlib.Omega.{arith}
-use lib.ListN.{length, take}
-use lib.Seq.{sets, length-sets}
-use Rattle.tasklist.specs.Encode.{joined}
-use Rattle.wording.specs.Wording.{line}
-use Rattle.wording.proofs.DigitLaws.{byte_line_most}
-use Rattle.wording.proofs.ClosingLaws.{Lined, lined_none, lined_more}
-use borrow.Author.Rules.{rules}
+use Prim.Native.Nat.{◌*◌, ◌-◌, ◌≤◌}
+use mathlib.Core.Path.{◌≡◌}
+use lib.ListN.{length}
+use Rattle.wording.proofs.ClosingLaws.{Lined}
 use Rattle.transcript.proofs.pieces.put_lines.Given as goal
 
 abbrev pub invariant-loop-i : goal.invariant-loop-i

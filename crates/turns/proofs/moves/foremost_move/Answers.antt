@@ -1,6 +1,5 @@
 -- Where a task is left, the foremost's next call is the move. Assumes nothing.
 use Rattle.turns.proofs.MoveLaws.{moved_none, moved_made, moved_refused}
-use borrow.Author.Rules.{rules}
 use Rattle.turns.proofs.moves.foremost_move.Goals as goal
 
 pub returns-then-run-eq0 : goal.returns-then-run-eq0

@@ -1,7 +1,6 @@
 -- Which call it is, says the kind. Assumes nothing.
 use native.Mathlib.Omega.{arith}
 use Rattle.turns.proofs.MoveLaws.{next_no_number, next_start, next_step, next_end}
-use borrow.Author.Rules.{rules}
 use Rattle.turns.proofs.moves.next_call.Goals as goal
 
 pub returns-then-task-gt127 : goal.returns-then-task-gt127

@@ -2,7 +2,6 @@
 use mathlib.Core.Path.{refl, sym, ◌∙◌}
 use borrow.Author.Tests.{eq-eqb, ne_eqb}
 use Rattle.turns.specs.Moves.{next_kind}
-use borrow.Author.Rules.{rules}
 use Rattle.turns.proofs.moves.next_kind.Goals as goal
 
 pub returns-then-own-eq1 : goal.returns-then-own-eq1

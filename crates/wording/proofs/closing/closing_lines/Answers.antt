@@ -1,6 +1,6 @@
 -- The memory, then the totals.
 -- Assumes nothing.
-use mathlib.Core.Path.{◌≡◌, sym, ap, ◌∙◌}
+use mathlib.Core.Path.{◌≡◌}
 use lib.ListN.{length}
 use Rattle.runtime.specs.View.{model}
 use Rattle.wording.specs.Wording.{closing}

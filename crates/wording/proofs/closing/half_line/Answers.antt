@@ -1,15 +1,13 @@
 -- Nothing, or the line of half a call.
 -- Assumes nothing.
-use mathlib.Core.Path.{sym, ap, ◌∙◌}
+use mathlib.Core.Path.{◌∙◌}
 use native.Mathlib.Omega.{arith}
 use native.Mathlib.Nat.{zero-add}
 use lib.ListN.{length}
-use lib.Seq.{length-sets}
 use Rattle.wording.specs.Wording.{line}
 use Rattle.wording.specs.Promises.{given, half_bytes}
 use Rattle.wording.proofs.DigitLaws.{line_most}
 use Rattle.wording.proofs.ClosingLaws.{no_room, with_room, wrote_none, wrote_all, half_none, half_some}
-use borrow.Author.Rules.{rules}
 use Rattle.wording.proofs.closing.half_line.Goals as goal
 
 pub returns-then-out-lt3 : goal.returns-then-out-lt3

@@ -1,15 +1,15 @@
 -- Each location on a line of its own.
 -- Assumes nothing.
-use Prim.Native.Nat.{ℕ, ◌+◌, ◌*◌, ◌-◌, ◌≤◌, ◌<◌, ◌^◌, min}
-use mathlib.Core.Path.{◌≡◌, sym, ap, ◌∙◌}
+use Prim.Native.Nat.{◌<◌}
+use mathlib.Core.Path.{ap, ◌∙◌}
 use native.Mathlib.Omega.{arith}
-use lib.ListN.{length, take, get_or}
-use lib.Seq.{sets, length-sets}
+use lib.ListN.{length, take}
+use lib.Seq.{length-sets}
 use Rattle.tasklist.specs.Encode.{joined}
 use Rattle.runtime.specs.View.{model}
 use Rattle.wording.specs.Wording.{line}
 use borrow.Author.Rules.{rules}
-use Rattle.wording.proofs.ClosingLaws.{Lined, lined_none, lined_more, lined_all, memory_long, memory_at, followed_most}
+use Rattle.wording.proofs.ClosingLaws.{lined_none, lined_more, lined_all, memory_long, memory_at, followed_most}
 use Rattle.wording.proofs.closing.put_memory.Goals as goal
 
 pub loop-i-init : goal.loop-i-init

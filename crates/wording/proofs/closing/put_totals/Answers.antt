@@ -1,7 +1,7 @@
 -- One number behind the other.
 -- Assumes nothing.
 use Prim.Native.Nat.{◌<◌, ◌^◌}
-use mathlib.Core.Path.{sym, ap, ◌∙◌}
+use mathlib.Core.Path.{ap, ◌∙◌}
 use native.Mathlib.Omega.{arith}
 use lib.ListN.{length}
 use lib.Seq.{length-sets}

@@ -1,6 +1,6 @@
 -- The digits of a tenth, then the last digit; the number falls at each call.
 -- Assumes nothing.
-use Rattle.std.proofs.Common.{◌<◌, ◌/◌, ap, length, arith}
+use Rattle.std.proofs.Common.{◌/◌, ap, length, arith}
 use lib.Seq.{length-sets}
 use Rattle.wording.specs.Wording.{digits}
 use Rattle.wording.proofs.DigitLaws.{digits_one, more_length, put_one, put_more}

@@ -6,7 +6,6 @@ use lib.ListN.{length}
 use lib.Seq.{length-sets}
 use Rattle.wording.specs.Wording.{digits}
 use Rattle.wording.proofs.DigitLaws.{followed_length, put_behind}
-use borrow.Author.Rules.{rules}
 use Rattle.wording.proofs.decimal.put_followed.Goals as goal
 
 pub put_decimal-last-requires : goal.put_decimal-last-requires

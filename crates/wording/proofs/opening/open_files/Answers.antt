@@ -6,7 +6,6 @@ use lib.ListN.{take}
 use lib.Seq.{length-take-le}
 use Rattle.semantics.specs.Run.{fixed_weights}
 use Rattle.wording.proofs.OpeningLaws.{opened_by}
-use borrow.Author.Rules.{rules}
 use Rattle.wording.proofs.opening.open_files.Goals as goal
 
 pub slice_bounds-open-end : goal.slice_bounds-open-end

@@ -1,8 +1,7 @@
 -- Nothing, or the word and the number.
 -- Assumes nothing.
-use Prim.Native.Nat.{ℕ, ◌+◌, ◌≤◌}
-use mathlib.Core.Path.{◌≡◌, sym, ap, subst, ◌∙◌}
-use mathlib.Core.List.{List, [], ◌∷◌}
+use mathlib.Core.Path.{◌≡◌, sym, ap, ◌∙◌}
+use mathlib.Core.List.{[], ◌∷◌}
 use native.Mathlib.Omega.{arith}
 use lib.ListN.{length}
 use lib.Seq.{length-sets}
@@ -12,7 +11,6 @@ use Rattle.wording.specs.Promises.{given, open_bytes}
 use Rattle.wording.proofs.DigitLaws.{line_most}
 use Rattle.wording.proofs.ClosingLaws.{no_room, with_room, wrote_none, wrote_all}
 use Rattle.wording.proofs.OpeningLaws.{open_none, open_some, refused_length, put_refused}
-use borrow.Author.Rules.{rules}
 use Rattle.wording.proofs.opening.open_line.Goals as goal
 
 pub returns-then-out-lt11 : goal.returns-then-out-lt11

@@ -1,11 +1,10 @@
 -- 0, the list's refusal, or 8, 21, 22.
 -- Assumes nothing.
-use mathlib.Core.Path.{◌≡◌, sym, ap, subst, ◌∙◌}
+use mathlib.Core.Path.{sym, ap, subst, ◌∙◌}
 use Prim.Native.Nat.{ℕ, ◌≤◌}
 use native.Mathlib.Omega.{arith}
 use Rattle.runtime.specs.Asked.{open_number}
 use Rattle.wording.proofs.OpeningLaws.{refusal_most}
-use borrow.Author.Rules.{rules}
 use Rattle.wording.proofs.opening.open_number.Goals as goal
 
 pub returns-in-Accepted : goal.returns-in-Accepted

@@ -4,7 +4,6 @@ use mathlib.Core.Path.{refl}
 use native.Mathlib.Omega.{arith}
 use native.Mathlib.Numerals.{add-one, add-two, add-three}
 use lib.ListN.{length-set}
-use borrow.Author.Rules.{rules}
 use Rattle.wording.proofs.opening.put_four.Goals as goal
 
 pub bounds-out-at-2 : goal.bounds-out-at-2

@@ -1,8 +1,5 @@
 -- Byte by byte: what is still to be put would make the word whole. Assumes nothing.
-use Prim.Native.Nat.{◌-◌}
-use lib.ListN.{length}
-use borrow.Author.Rules.{rules}
-use Rattle.wording.proofs.PutLaws.{Putting, putting_none, putting_more, putting_all}
+use Rattle.wording.proofs.PutLaws.{putting_none, putting_more, putting_all}
 use Rattle.wording.proofs.putting.put_bytes.Goals as goal
 
 pub loop-i-init : goal.loop-i-init

@@ -1,7 +1,6 @@
 use Prim.Native.Nat.{◌-◌}
 use lib.ListN.{length}
-use borrow.Author.Rules.{rules}
-use Rattle.wording.proofs.PutLaws.{Putting, putting_none, putting_more, putting_all}
+use Rattle.wording.proofs.PutLaws.{Putting}
 use Rattle.wording.proofs.putting.put_bytes.Given as goal
 
 abbrev pub invariant-loop-i : goal.invariant-loop-i

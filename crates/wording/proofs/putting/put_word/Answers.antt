@@ -5,7 +5,6 @@ use native.Mathlib.Omega.{arith}
 use lib.ListN.{length}
 use borrow.Author.Tests.{leb-true, leb-false}
 use Rattle.wording.proofs.PutLaws.{put_with, put_without}
-use borrow.Author.Rules.{rules}
 use Rattle.wording.proofs.putting.put_word.Goals as goal
 
 pub put_bytes-requires : goal.put_bytes-requires

@@ -10,8 +10,7 @@ ghost use Rattle.benchlib.specs.Counts.{calls_in, left_in, replay_asked, lent_as
 use sequence::{replay, sequential};
 
 // How many tasks are left in the order of a fresh run; 0 where open refuses.
-#[unsafe(no_mangle)]
-pub extern "C" fn bench_open(list: &[u8], memory: &[u32]) -> usize
+pub fn bench_open(list: &[u8], memory: &[u32]) -> usize
     ensures { result ≡ left_in (open_asked list.now memory.now fixed_weights) }
 {
     let weights = fresh::todays_weights();
@@ -20,8 +19,7 @@ pub extern "C" fn bench_open(list: &[u8], memory: &[u32]) -> usize
 }
 
 // How many calls the sequential run makes; 0 where open refuses.
-#[unsafe(no_mangle)]
-pub extern "C" fn bench_sequential(list: &[u8], memory: &[u32]) -> u32
+pub fn bench_sequential(list: &[u8], memory: &[u32]) -> u32
     ensures { result ≡ calls_in (sequential_asked list.now memory.now fixed_weights) }
 {
     let weights = fresh::todays_weights();
@@ -30,8 +28,7 @@ pub extern "C" fn bench_sequential(list: &[u8], memory: &[u32]) -> u32
 }
 
 // How many of these calls are accepted, made one after the other; 0 where open refuses.
-#[unsafe(no_mangle)]
-pub extern "C" fn bench_replay(list: &[u8], memory: &[u32], kinds: &[u8], tasks: &[u32]) -> u32
+pub fn bench_replay(list: &[u8], memory: &[u32], kinds: &[u8], tasks: &[u32]) -> u32
     ensures { result ≡ calls_in (replay_asked list.now memory.now fixed_weights (calls_of kinds.now tasks.now)) }
 {
     let weights = fresh::todays_weights();
@@ -40,8 +37,7 @@ pub extern "C" fn bench_replay(list: &[u8], memory: &[u32], kinds: &[u8], tasks:
 }
 
 // The same of the calls in the first 512 bytes of an input, each on the run that is lent to it.
-#[unsafe(no_mangle)]
-pub extern "C" fn bench_lent(list: &[u8], memory: &[u32], input: &[u8]) -> u32
+pub fn bench_lent(list: &[u8], memory: &[u32], input: &[u8]) -> u32
     ensures { result ≡ calls_in (lent_asked list.now memory.now fixed_weights input.now) }
 {
     let weights = fresh::todays_weights();

@@ -1,5 +1,5 @@
-// Check and the sequential run (document 01: hand run) for programs in C, which call them through include/preview.h.
-// A refusal is 128 plus its number.
+// Check and the sequential run (document 01: hand run) for programs in C, which call them through include/preview.h and the crate
+// `preview_c`. A refusal is 128 plus its number.
 #![tactic(auto)]
 
 ghost use Rattle.std.specs.Prelude.{◌+◌, ◌≤◌, ◌≡◌, length, take};
@@ -26,8 +26,7 @@ fn refused(refusal: Refusal) -> u32
 }
 
 // Checks a job list: count(0), 1 to 128, or 128 plus the refusal's number.
-#[unsafe(no_mangle)]
-pub extern "C" fn preview_check(list: &[u8]) -> u32
+pub fn preview_check(list: &[u8]) -> u32
     ensures { result ≡ check_over_c list.now }
 {
     match reader::check(list) {
@@ -60,10 +59,9 @@ fn delivered(run: Run, res: &mut [u8]) -> u32
     128 + 17
 }
 
-// Runs a list by hand on a library, under a table of weights, and writes the final entries to the front of `result`: 0, or 128
+// Runs a list by hand on a library, under a table of weights, and writes the final entries to the front of `res`: 0, or 128
 // plus the refusal's number, and then nothing is written.
-#[unsafe(no_mangle)]
-pub extern "C" fn preview_hand_run(list: &[u8], library: &[u8], table: &[u8], res: &mut [u8]) -> u32
+pub fn preview_hand_run(list: &[u8], library: &[u8], table: &[u8], res: &mut [u8]) -> u32
     ensures { Answers (hand_run_over_c list.now library.now table.now (length res.old)) res.old res.new result }
 {
     let numbers = library::read_numbers(library);

@@ -1,7 +1,7 @@
 /*
  * Checking a job list and running it by hand, for programs in C.
  *
- * Link with target/staticlib/libpreview.a, which `rt staticlib preview` builds from proved code. The functions keep no
+ * Link with target/staticlib/libpreview.a, which `tools/build preview` builds from proved code. The functions keep no
  * state, allocate nothing and read no file: threads may call them at the same time, each with its own `result`.
  *
  * Every pointer must be valid for the length beside it and must not be null, not even where that length is 0. `result`

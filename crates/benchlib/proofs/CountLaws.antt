@@ -3,7 +3,7 @@ use Prim.Native.Nat.{ℕ}
 use mathlib.Core.Path.{◌≡◌, refl, sym, ap, subst, ◌∙◌}
 use mathlib.Core.List.{List}
 use native.Mathlib.Omega.{arith}
-use lib.ListN.{length, take}
+use lib.ListN.{length}
 use lib.Seq.{length-take-le}
 use Rattle.tasklist.proofs.Guarantees.{accepted_same}
 use Rattle.semantics.specs.Run as Semantics
@@ -11,8 +11,7 @@ use Rattle.semantics.specs.Operations.{Asked, denies, gives, with_list, open_ask
 use Rattle.plans.specs.View.{model as parts_model}
 use Rattle.runtime.specs.declared.Run.{Run}
 use Rattle.runtime.specs.declared.Opened.{Opened}
-use Rattle.tasklist.specs.TaskList.{TaskList}
-use Rattle.tasklist.specs.Decode.{accepted, decode}
+use Rattle.tasklist.specs.Decode.{decode}
 use Rattle.tasklist.specs.Tables.{list_of}
 use Rattle.semantics.specs.Run.{Context, context, initial}
 use Rattle.semantics.specs.Call.{Call, after_all}

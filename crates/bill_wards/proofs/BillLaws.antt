@@ -1,10 +1,9 @@
 -- The answers to a bill, in their order. Assumes nothing.
-use Rattle.std.proofs.Common.{◌≡◌, ℕ, ◌+◌, ◌-◌, ◌<◌, ◌≤◌, true, false, eqb, leb, List, [], ◌∷◌, ◌++◌, length, get_or, take, drop, set, replicate, sym, refl, ap, ◌∙◌, zero-add, add-one, arith, length-take-le, take-suc, take_at, drop_at, eq-eqb, ne_eqb, le-leb}
+use Rattle.std.proofs.Common.{◌≡◌, ℕ, ◌+◌, ◌-◌, ◌<◌, ◌≤◌, true, false, eqb, List, [], ◌∷◌, ◌++◌, length, get_or, take, drop, set, replicate, sym, refl, ap, ◌∙◌, zero-add, add-one, arith, length-take-le, take-suc, take_at, drop_at, eq-eqb, ne_eqb, le-leb}
 use lib.Seq.{sets, sets-eq}
 use borrow.Author.Tests.{lt-leb}
 use Rattle.tasklist.specs.Answers as Listed
 use Rattle.tasklist.proofs.WriterLaws.{sets_append}
-use Rattle.semantics.specs.Operations.{gives, denies}
 use Rattle.runtime.specs.declared.Run.{Run}
 use Rattle.runtime.specs.View.{model, context_of, SoundRun}
 use Rattle.runtime.specs.Asked.{queue_answer, queue_out}

@@ -1,5 +1,5 @@
 -- The weight of a block, added up modulo 2^32: no sound run's wraps. Assumes nothing.
-use Rattle.std.proofs.Common.{◌≡◌, ℕ, zero, suc, ◌+◌, ◌-◌, ◌%◌, ◌^◌, ◌<◌, ◌≤◌, min, Bool, true, false, leb, List, [], ◌∷◌, length, get_or, take, drop, sym, refl, ap, ◌∙◌, mod-eq_of_lt, arith, length-drop, drop_of_length-le, take_all, drop-cons, drop-drop, take-add, leb-false, leb-true}
+use Rattle.std.proofs.Common.{◌≡◌, ℕ, zero, suc, ◌+◌, ◌-◌, ◌%◌, ◌^◌, ◌<◌, ◌≤◌, Bool, true, false, leb, List, [], ◌∷◌, length, get_or, take, drop, sym, refl, ap, ◌∙◌, mod-eq_of_lt, arith, length-drop, drop_of_length-le, take_all, drop-cons, drop-drop, take-add, leb-false, leb-true}
 use native.Mathlib.Nat.{mod-add-mod}
 use Rattle.tasklist.specs.TaskList.{total, task_count}
 use Rattle.tasklist.specs.Tables.{capped}

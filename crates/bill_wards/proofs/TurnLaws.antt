@@ -1,5 +1,5 @@
 -- What is read of a run, and one number of the walk over its records. Assumes nothing.
-use Rattle.std.proofs.Common.{◌≡◌, ℕ, suc, ◌+◌, ◌-◌, ◌%◌, ◌^◌, ◌<◌, ◌≤◌, List, [], ◌∷◌, ◌++◌, map, length, take, drop, set, replicate, sym, refl, ap, ◌∙◌, subst, append_assoc, append-nil, add-one, arith, length-drop, length-set, drop_of_length-le, drop-drop, take-suc-set, drop-set-lt, lt-ltb}
+use Rattle.std.proofs.Common.{◌≡◌, ℕ, suc, ◌+◌, ◌-◌, ◌%◌, ◌^◌, ◌<◌, ◌≤◌, List, [], ◌∷◌, ◌++◌, map, length, take, drop, set, replicate, sym, refl, ap, ◌∙◌, append_assoc, append-nil, add-one, arith, length-drop, length-set, drop_of_length-le, drop-drop, take-suc-set, drop-set-lt, lt-ltb}
 use mathlib.Core.List.{map-append}
 use mathlib.Core.Bool.{false≢true}
 use Rattle.tasklist.specs.TaskList.{total, task_count}
@@ -7,9 +7,9 @@ use Rattle.tasklist.specs.Tables.{capped}
 use Rattle.semantics.specs.declared.Answer.{Answer}
 use Rattle.semantics.specs.declared.Answer.TheVariants as Answers
 use Rattle.semantics.specs.declared.Record.{Record}
-use Rattle.semantics.specs.Run.{Task, task_of}
-use Rattle.semantics.specs.Answers.{refusal_number, task_from}
-use Rattle.semantics.specs.Operations.{Asked, denies, gives, record_asked}
+use Rattle.semantics.specs.Run.{task_of}
+use Rattle.semantics.specs.Answers.{task_from}
+use Rattle.semantics.specs.Operations.{gives, record_asked}
 use Rattle.semantics.specs.Sound.{weighs}
 use Rattle.plans.specs.View.{model as parts_model}
 use Rattle.plans.proofs.ViewLaws.{tasks_length}
@@ -20,7 +20,6 @@ use Rattle.runtime.specs.Asked.{unless_refused, recorded}
 use Rattle.model_bill.specs.Bill.{wards_from, wards, ward_weight, ward_weights}
 use Rattle.model_bill.proofs.Given.{is_given, given_or}
 use Rattle.model_bill.proofs.Walk.{walk_inside, walk_blank, walk_ward}
-use Rattle.bill_wards.specs.declared.Wards.{Wards}
 use Rattle.bill_wards.specs.declared.Walk.{Walk}
 use Rattle.bill_wards.specs.Promises.{RecordOf, Room, with_later, Weighed, Turned, WardsOf}
 use Rattle.bill_wards.proofs.BlockLaws.{wards_capped, ward_weight_is}

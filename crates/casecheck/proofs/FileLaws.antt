@@ -1,7 +1,7 @@
 -- Where the parts of a case end: what the code finds is what is defined, and each end lies within the file.
 use Prim.Native.Nat.{ℕ, ◌+◌, ◌-◌, ◌*◌, ◌^◌, ◌≤◌, ◌<◌}
 use mathlib.Core.Bool.{Bool, true, false}
-use mathlib.Core.Path.{◌≡◌, refl, sym, ap, ◌∙◌}
+use mathlib.Core.Path.{◌≡◌, refl, sym}
 use mathlib.Core.List.{List}
 use native.Mathlib.Omega.{arith}
 use native.Mathlib.Nat.{mul-le-mul_left}
@@ -10,7 +10,6 @@ use lib.ListN.{length, get_or}
 use borrow.Author.Tests.{le-leb, lt-leb, leb-true}
 use Rattle.casecheck.specs.declared.PartEnd.{PartEnd}
 use Rattle.casecheck.specs.declared.PartEnd.TheVariants as part
-use Rattle.casecheck.specs.declared.CaseEnds.{CaseEnds}
 use Rattle.casecheck.specs.declared.CaseEnds.TheVariants as case
 use Rattle.casecheck.specs.File.{count_at, pick_end, part_end, calls_behind, memory_behind, list_behind, case_ends}
 

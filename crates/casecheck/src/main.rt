@@ -109,12 +109,17 @@ fn put_cases(bytes: &[u8], out: &mut [u8; 4096]) -> usize {
     o
 }
 
+// Whether a file has more bytes.
+fn more<F: Read>(file: &mut F) -> bool {
+    let mut byte = [0u8; 1];
+    0 < fill(file, &mut byte)
+}
+
 // The cases of a file that is open.
 fn replay_open<F: Read>(file: &mut F) {
     let mut bytes = io::large_buffer();
     let n = fill(file, &mut bytes);
-    let mut more = [0u8; 1];
-    if 0 < fill(file, &mut more) {
+    if more(file) {
         text::bad_file();
         return;
     }

@@ -1,12 +1,12 @@
 -- What is printed of a run: the line of a refusal, or the lines of the bill, whose sums are those of the wards. Assumes nothing.
-use Prim.Native.Nat.{ℕ, zero, suc, ◌+◌, ◌*◌, ◌^◌, ◌≤◌, ◌<◌}
+use Prim.Native.Nat.{ℕ, ◌+◌, ◌*◌, ◌^◌, ◌≤◌, ◌<◌}
 use mathlib.Core.Path.{◌≡◌, refl, sym, ap, subst, ◌∙◌}
-use mathlib.Core.List.{List, [], ◌∷◌, ◌++◌}
+use mathlib.Core.List.{List, ◌++◌}
 use mathlib.Core.Bool.{Bool, true, false, false≢true}
 use native.Mathlib.Omega.{arith}
 use native.Mathlib.Nat.{zero-add}
-use lib.ListN.{length, take, drop, replicate, length-replicate, length-map}
-use lib.Seq.{sets, sets-eq, take_at, drop_at, length-take-le}
+use lib.ListN.{length, take, drop, replicate, length-replicate}
+use lib.Seq.{take_at, length-take-le}
 use Rattle.tasklist.specs.Answers as Listed
 use Rattle.tasklist.specs.Tables.{list_of}
 use Rattle.tasklist.specs.Accepted.{Accepted}
@@ -21,16 +21,16 @@ use Rattle.wording.specs.Wording.{refused_line}
 use Rattle.wording.specs.Promises.{Wrote, PutAt, given}
 use Rattle.wording.proofs.ClosingLaws.{no_room, with_room, wrote_none}
 use Rattle.wording.proofs.PutLaws.{put_then, put_behind, put_wrote}
-use Rattle.bill_shares.specs.Shares.{whole, shares}
+use Rattle.bill_shares.specs.Shares.{whole}
 use Rattle.bill_shares.proofs.ShareLaws.{shares_count}
 use Rattle.bill_shares.proofs.SharedLaw.{shared}
-use Rattle.model_bill.specs.Bill.{wards, ward_weight, ward_weights, shares_asked}
+use Rattle.model_bill.specs.Bill.{wards, ward_weights, shares_asked}
 use Rattle.model_bill.proofs.Weights.{some_weight, all_weighs}
 use Rattle.model_bill.proofs.Given.{Given, asked_gives}
 use Rattle.bill_wards.specs.declared.Billed.{Billed}
 use Rattle.bill_wards.specs.declared.Billed.TheVariants as Billing
 use Rattle.bill_wards.specs.declared.Wards.{Wards}
-use Rattle.bill_wards.specs.Answers.{refusal_of, billed, named}
+use Rattle.bill_wards.specs.Answers.{refusal_of, billed}
 use Rattle.bill_wards.specs.Promises.{BilledAs, WardsOf}
 use Rattle.host_bill.specs.Lines.{wards_word, told, ward_lines, lines_of, bill_text, room}
 use Rattle.host_bill.specs.Promises.{RunPrinted, BillPrinted}

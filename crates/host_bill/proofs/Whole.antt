@@ -1,10 +1,10 @@
 -- What the program bill prints is `hand_bill` of the bytes of the two files, and with a file of calls `calls_bill`, however that file
 -- is cut into pieces. Assumes nothing.
-use Prim.Native.Nat.{ℕ, zero, suc, ◌+◌, ◌*◌, ◌≤◌}
+use Prim.Native.Nat.{ℕ, zero, suc, ◌+◌, ◌≤◌}
 use mathlib.Core.Path.{◌≡◌, refl, sym, ap, subst, ◌∙◌}
 use mathlib.Core.List.{List, [], ◌∷◌, ◌++◌, append_assoc, append-nil}
 use native.Mathlib.Omega.{arith}
-use lib.ListN.{length, take}
+use lib.ListN.{length}
 use lib.Seq.{take_all}
 use Rattle.tasklist.specs.TaskList.{TaskList}
 use Rattle.tasklist.specs.Decode.{accepted, decode}
@@ -14,7 +14,7 @@ use Rattle.tasklist.proofs.Guarantees.{accepted_list, accepted_same}
 use Rattle.library.specs.Library.{memory_of}
 use Rattle.semantics.specs.Run.{Context, context, fixed_weights, initial}
 use Rattle.semantics.specs.Run as Semantics
-use Rattle.semantics.specs.Call.{Call, after_all}
+use Rattle.semantics.specs.Call.{after_all}
 use Rattle.semantics.specs.Sequential.{sequential}
 use Rattle.semantics.specs.Operations.{gives, with_list, open_asked, sequential_asked}
 use Rattle.semantics.proofs.Guarantee.{guarantee}

@@ -21,7 +21,6 @@ use Rattle.runtime.specs.declared.Run.{Run}
 use Rattle.runtime.specs.View.{parts_of, model, context_of, SoundRun}
 use Rattle.runtime.specs.Calls.{calls_of_kind}
 use Rattle.sequence.specs.Replays.{calls_of}
-use Rattle.run_rounds.specs.declared.Seen.{Seen}
 use Rattle.run_rounds.specs.declared.Seen.TheVariants.{Ready}
 use Rattle.run_rounds.specs.Looking.{SeenAs, BatchOf}
 

@@ -1,6 +1,6 @@
 -- The report: the workers are tested first, then open's refusal is handed on, else the rounds of the fresh run are reported. Assumes
 -- nothing.
-use Prim.Native.Nat.{ℕ, ◌-◌, ◌≤◌, ◌<◌}
+use Prim.Native.Nat.{ℕ, ◌≤◌, ◌<◌}
 use mathlib.Core.Path.{◌≡◌, refl, sym, ap, ◌∙◌}
 use mathlib.Core.List.{List}
 use native.Mathlib.Omega.{arith}
@@ -8,10 +8,8 @@ use lib.ListN.{length}
 use borrow.Author.Tests.{le-leb, lt-leb}
 use Rattle.tasklist.specs.Decode.{decode}
 use Rattle.semantics.specs.Run.{initial}
-use Rattle.semantics.specs.Run as Semantics
-use Rattle.semantics.specs.Operations.{Asked, denies, gives, with_list, open_asked}
+use Rattle.semantics.specs.Operations.{denies, gives, with_list, open_asked}
 use Rattle.model_rounds.specs.Rounds.{rounds_from, all_calls, most_rounds, publication, report, rounds_asked}
-use Rattle.runtime.specs.declared.Run.{Run}
 use Rattle.runtime.specs.declared.Opened.{Opened}
 use Rattle.runtime.specs.View.{context_of}
 use Rattle.runtime.specs.Asked.{OpenedAs}

@@ -14,7 +14,7 @@ use Rattle.semantics.specs.declared.Record.{Record}
 use Rattle.semantics.specs.declared.CallRefusal.{CallRefusal}
 use Rattle.semantics.specs.Run.{weight_of}
 use Rattle.semantics.specs.Effect.{Effect}
-use Rattle.semantics.specs.Plan.{start, step, units}
+use Rattle.semantics.specs.Plan.{step, units}
 use Rattle.semantics.specs.Turns.{next_call}
 use Rattle.model_rounds.specs.Rounds.{is_accepted, ready}
 use Rattle.plans.specs.declared.StepPlan.{StepPlan}

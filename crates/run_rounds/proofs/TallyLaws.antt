@@ -4,7 +4,6 @@ use mathlib.Core.Path.{◌≡◌, refl, sym, ap, ◌∙◌}
 use mathlib.Core.List.{List, [], ◌∷◌}
 use native.Mathlib.Omega.{arith}
 use lib.ListN.{length, take, get_or, length-append}
-use Rattle.semantics.specs.Run as Semantics
 use Rattle.semantics.specs.Call.{Call, after_all}
 use Rattle.model_rounds.specs.Rounds.{round_calls, rounds_from, all_calls, most_rounds}
 use Rattle.model_rounds.proofs.Round.{no_rounds, rounds_none, rounds_some}

@@ -7,11 +7,6 @@ use Rattle.runtime.specs.Asked.{OpenedAs}
 use Rattle.lent.specs.Lines as Lines
 use Rattle.benchlib.specs.Counts.{lent_asked}
 use Rattle.benchlib.proofs.CountLaws.{none_told, made_told}
-use borrow.Author.Rules.{rules}
-use Rattle.benchlib.proofs.bench_lent.Reads as reads
-use Rattle.benchlib.proofs.bench_lent.Lts as lts
-use Rattle.fresh.proofs.open.Reads as open_reads
-use Rattle.lent.proofs.lend.Reads as lend_reads
 use Rattle.benchlib.proofs.bench_lent.Goals as goal
 
 pub returns-then-fresh-eq0 : goal.returns-then-fresh-eq0

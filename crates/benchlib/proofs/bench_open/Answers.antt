@@ -4,10 +4,6 @@ use Rattle.semantics.specs.Run.{fixed_weights}
 use Rattle.semantics.specs.Operations.{open_asked}
 use Rattle.runtime.specs.Asked.{OpenedAs}
 use Rattle.benchlib.proofs.CountLaws.{left_told}
-use borrow.Author.Rules.{rules}
-use Rattle.benchlib.proofs.bench_open.Reads as reads
-use Rattle.benchlib.proofs.bench_open.Lts as lts
-use Rattle.fresh.proofs.open.Reads as open_reads
 use Rattle.benchlib.proofs.bench_open.Goals as goal
 
 pub returns : goal.returns

@@ -4,10 +4,6 @@ use Rattle.semantics.specs.Run.{fixed_weights}
 use Rattle.semantics.specs.Operations.{open_asked}
 use Rattle.sequence.specs.Replays.{calls_of, ReplayedAs}
 use Rattle.benchlib.proofs.CountLaws.{replay_told}
-use borrow.Author.Rules.{rules}
-use Rattle.benchlib.proofs.bench_replay.Reads as reads
-use Rattle.benchlib.proofs.bench_replay.Lts as lts
-use Rattle.sequence.proofs.replay.Reads as replay_reads
 use Rattle.benchlib.proofs.bench_replay.Goals as goal
 
 pub returns : goal.returns

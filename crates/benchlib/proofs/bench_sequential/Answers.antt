@@ -4,10 +4,6 @@ use Rattle.semantics.specs.Run.{fixed_weights}
 use Rattle.semantics.specs.Operations.{sequential_asked}
 use Rattle.runtime.specs.Asked.{OpenedAs}
 use Rattle.benchlib.proofs.CountLaws.{calls_told}
-use borrow.Author.Rules.{rules}
-use Rattle.benchlib.proofs.bench_sequential.Reads as reads
-use Rattle.benchlib.proofs.bench_sequential.Lts as lts
-use Rattle.sequence.proofs.sequential.Reads as sequential_reads
 use Rattle.benchlib.proofs.bench_sequential.Goals as goal
 
 pub returns : goal.returns

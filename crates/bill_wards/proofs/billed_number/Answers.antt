@@ -1,5 +1,5 @@
 -- By the answer. Assumes nothing.
-use Rattle.std.proofs.Common.{sym, ap, arith, rules}
+use Rattle.std.proofs.Common.{sym, ap, arith}
 use Rattle.bill_wards.specs.Answers.{refusal_of}
 use Rattle.bill_wards.proofs.billed_number.Goals as goal
 

@@ -1,5 +1,5 @@
 -- Task by task, modulo 2^32. Assumes nothing.
-use Rattle.std.proofs.Common.{◌≡◌, ℕ, ◌+◌, ◌-◌, ◌%◌, ◌^◌, ◌≤◌, take, drop, refl, ap, ◌∙◌, arith, rules}
+use Rattle.std.proofs.Common.{◌≡◌, ℕ, ◌%◌, ◌^◌, take, drop, refl, ap, ◌∙◌, arith}
 use Rattle.tasklist.specs.TaskList.{total}
 use Rattle.semantics.specs.Sound.{weighs}
 use Rattle.runtime.specs.View.{model}

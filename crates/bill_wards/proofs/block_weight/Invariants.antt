@@ -1,8 +1,7 @@
-use Rattle.std.proofs.Common.{◌≡◌, ℕ, ◌+◌, ◌-◌, ◌%◌, ◌^◌, ◌≤◌, take, drop, refl, ap, ◌∙◌, arith, rules}
+use Rattle.std.proofs.Common.{◌≡◌, ◌-◌, ◌%◌, ◌^◌, ◌≤◌, take, drop}
 use Rattle.tasklist.specs.TaskList.{total}
 use Rattle.semantics.specs.Sound.{weighs}
 use Rattle.runtime.specs.View.{model}
-use Rattle.bill_wards.proofs.BlockLaws.{weighs_turn}
 use Rattle.bill_wards.proofs.block_weight.Given as goal
 
 abbrev pub invariant-loop-i : goal.invariant-loop-i

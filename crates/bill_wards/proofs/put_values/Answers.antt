@@ -1,5 +1,5 @@
 -- One behind the other. Assumes nothing.
-use Rattle.std.proofs.Common.{◌≡◌, ℕ, ◌-◌, ◌<◌, ◌≤◌, List, length, get_or, take, set, refl, ap, ◌∙◌, arith, length-set, rules}
+use Rattle.std.proofs.Common.{◌≡◌, ℕ, ◌<◌, List, length, get_or, take, set, refl, ap, ◌∙◌, arith, length-set, rules}
 use lib.Seq.{sets}
 use Rattle.bill_wards.proofs.BillLaws.{put_more}
 use Rattle.bill_wards.proofs.put_values.Goals as goal

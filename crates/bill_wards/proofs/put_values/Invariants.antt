@@ -1,6 +1,5 @@
-use Rattle.std.proofs.Common.{◌≡◌, ℕ, ◌-◌, ◌<◌, ◌≤◌, List, length, get_or, take, set, refl, ap, ◌∙◌, arith, length-set, rules}
+use Rattle.std.proofs.Common.{◌≡◌, ◌-◌, ◌≤◌, length, take}
 use lib.Seq.{sets}
-use Rattle.bill_wards.proofs.BillLaws.{put_more}
 use Rattle.bill_wards.proofs.put_values.Given as goal
 
 abbrev pub invariant-loop-i : goal.invariant-loop-i

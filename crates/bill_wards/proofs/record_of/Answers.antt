@@ -1,8 +1,6 @@
 -- What the run tells of a task below 128. Assumes nothing.
 use Rattle.bill_wards.proofs.TurnLaws.{record_read}
-use Rattle.std.proofs.Common.{rules}
 use Rattle.bill_wards.proofs.record_of.Goals as goal
-
 
 pub returns : goal.returns
 returns c =

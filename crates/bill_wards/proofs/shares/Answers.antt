@@ -1,5 +1,5 @@
 -- The four answers. Assumes nothing.
-use Rattle.std.proofs.Common.{◌≤◌, arith, rules}
+use Rattle.std.proofs.Common.{arith}
 use Rattle.bill_wards.proofs.BillLaws.{billed_left, billed_none, billed_short, billed_shared}
 use Rattle.bill_wards.proofs.shares.Goals as goal
 

@@ -1,12 +1,9 @@
 -- One task's weight, or none. Assumes nothing.
-use Rattle.std.proofs.Common.{◌≡◌, length, ◌∙◌, arith, rules}
-use Rattle.tasklist.proofs.PlaceLaws.{length_lowered}
-use Rattle.semantics.specs.contracts.Record.{the_type as the_record}
+use Rattle.std.proofs.Common.{◌≡◌, length, ◌∙◌, arith}
 use Rattle.runtime.specs.View.{model}
 use Rattle.bill_wards.proofs.BlockLaws.{weighs_none, weighs_one}
 use Rattle.bill_wards.proofs.TurnLaws.{tasks_whole}
 use Rattle.bill_wards.proofs.task_weight.Goals as goal
-
 
 pub returns-then-n-ge-RECORDS : goal.returns-then-n-ge-RECORDS
 returns-then-n-ge-RECORDS c =

@@ -1,8 +1,6 @@
 -- In the last ward's block, never made, or the next ward. Assumes nothing.
-use Rattle.std.proofs.Common.{arith, rules}
 use Rattle.bill_wards.proofs.TurnLaws.{turned_inside, turned_blank, turned_ward}
 use Rattle.bill_wards.proofs.turned.Goals as goal
-
 
 pub returns-then-n-walk : goal.returns-then-n-walk
 returns-then-n-walk c =

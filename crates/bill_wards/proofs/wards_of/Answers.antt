@@ -1,9 +1,7 @@
 -- Number by number: the wards found and those still to come are all wards. Assumes nothing.
-use Rattle.std.proofs.Common.{◌≡◌, ℕ, suc, ◌-◌, ◌≤◌, replicate, sym, refl, ap, ◌∙◌, subst, add-one, arith, rules}
+use Rattle.std.proofs.Common.{ℕ, replicate, sym, refl, ap, ◌∙◌, subst, add-one, arith}
 use lib.ListN.{length-replicate}
-use Rattle.runtime.specs.View.{model, context_of, SoundRun}
-use Rattle.model_bill.specs.Bill.{wards}
-use Rattle.bill_wards.specs.Promises.{Room, with_later, Weighed}
+use Rattle.bill_wards.specs.Promises.{Room, with_later}
 use Rattle.bill_wards.proofs.TurnLaws.{walk_begins, walked}
 use Rattle.bill_wards.proofs.wards_of.Goals as goal
 

@@ -1,9 +1,7 @@
-use Rattle.std.proofs.Common.{◌≡◌, ℕ, suc, ◌-◌, ◌≤◌, replicate, sym, refl, ap, ◌∙◌, subst, add-one, arith, rules}
-use lib.ListN.{length-replicate}
+use Rattle.std.proofs.Common.{◌≡◌, ◌-◌, ◌≤◌}
 use Rattle.runtime.specs.View.{model, context_of, SoundRun}
 use Rattle.model_bill.specs.Bill.{wards}
 use Rattle.bill_wards.specs.Promises.{Room, with_later, Weighed}
-use Rattle.bill_wards.proofs.TurnLaws.{walk_begins, walked}
 use Rattle.bill_wards.proofs.wards_of.Given as goal
 
 abbrev pub invariant-loop-n : goal.invariant-loop-n

@@ -3,9 +3,6 @@
 use mathlib.Core.Path.{sym, ◌∙◌}
 use native.Mathlib.Omega.{arith}
 use Rattle.casecheck.proofs.FileLaws.{case_within}
-use Prim.Native.Nat.{◌-◌, ◌≤◌}
-use lib.ListN.{length}
-use borrow.Author.Rules.{rules}
 use Rattle.casecheck.proofs.put_cases.Goals as goal
 
 pub overflow_add-memory : goal.overflow_add-memory

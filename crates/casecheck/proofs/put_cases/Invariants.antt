@@ -1,9 +1,5 @@
-use mathlib.Core.Path.{sym, ◌∙◌}
-use native.Mathlib.Omega.{arith}
-use Rattle.casecheck.proofs.FileLaws.{case_within}
 use Prim.Native.Nat.{◌-◌, ◌≤◌}
 use lib.ListN.{length}
-use borrow.Author.Rules.{rules}
 use Rattle.casecheck.proofs.put_cases.Given as goal
 
 abbrev pub invariant-loop-at : goal.invariant-loop-at

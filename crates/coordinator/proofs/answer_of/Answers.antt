@@ -3,7 +3,6 @@
 use mathlib.Core.Path.{sym, ap}
 use Rattle.runtime.specs.Asked.{open_number}
 use Rattle.coordinator.specs.Files.{number_of}
-use borrow.Author.Rules.{rules}
 use Rattle.coordinator.proofs.answer_of.Goals as goal
 
 pub returns-in-Unreadable : goal.returns-in-Unreadable

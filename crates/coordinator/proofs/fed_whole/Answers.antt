@@ -3,7 +3,6 @@
 use mathlib.Core.Path.{◌∙◌}
 use lib.ListN.{length}
 use Rattle.transcript.proofs.PieceLaws.{exceeds_none, used_all}
-use borrow.Author.Rules.{rules}
 use Rattle.coordinator.proofs.fed_whole.Goals as goal
 
 pub returns : goal.returns

@@ -1,7 +1,6 @@
 -- Each of the 128 tasks in turn.
 -- Assumes nothing.
 use Prim.Native.Nat.{◌-◌}
-use borrow.Author.Rules.{rules}
 use Rattle.casecheck.proofs.asks.put_records.Given as goal
 
 abbrev pub invariant-loop-task : goal.invariant-loop-task

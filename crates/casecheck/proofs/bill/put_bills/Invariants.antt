@@ -1,6 +1,5 @@
 -- Each of the five bills in turn. Assumes nothing.
 use Prim.Native.Nat.{◌-◌}
-use borrow.Author.Rules.{rules}
 use Rattle.casecheck.proofs.bill.put_bills.Given as goal
 
 abbrev pub invariant-loop-i : goal.invariant-loop-i

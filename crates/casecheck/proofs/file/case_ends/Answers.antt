@@ -2,7 +2,6 @@
 -- Assumes nothing.
 use mathlib.Core.Path.{sym, ◌∙◌}
 use Rattle.casecheck.proofs.FileLaws.{list_cut, memory_cut, calls_cut, case_there}
-use borrow.Author.Rules.{rules}
 use Rattle.casecheck.proofs.file.case_ends.Goals as goal
 
 pub returns-in-Bad : goal.returns-in-Bad

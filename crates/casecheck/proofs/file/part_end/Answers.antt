@@ -3,7 +3,6 @@
 use Prim.Native.Nat.{◌+◌, ◌*◌}
 use native.Mathlib.Omega.{arith}
 use Rattle.casecheck.proofs.FileLaws.{part_fits, part_there, part_cut, count_cut}
-use borrow.Author.Rules.{rules}
 use Rattle.casecheck.proofs.file.part_end.Goals as goal
 
 pub returns-then-n-at : goal.returns-then-n-at

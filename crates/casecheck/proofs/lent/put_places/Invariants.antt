@@ -3,7 +3,6 @@
 use Prim.Native.Nat.{◌-◌}
 use mathlib.Core.Path.{◌≡◌}
 use lib.ListN.{length}
-use borrow.Author.Rules.{rules}
 use Rattle.casecheck.proofs.lent.put_places.Given as goal
 
 abbrev pub invariant-loop-i : goal.invariant-loop-i

@@ -1,7 +1,6 @@
 -- Each location in turn, and the first number that is none.
 -- Assumes nothing.
 use Prim.Native.Nat.{◌-◌, ◌≤◌, ◌+◌}
-use borrow.Author.Rules.{rules}
 use Rattle.casecheck.proofs.lent.put_queues.Given as goal
 
 abbrev pub invariant-loop-location : goal.invariant-loop-location

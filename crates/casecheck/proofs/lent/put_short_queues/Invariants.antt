@@ -1,7 +1,6 @@
 -- Each location in turn.
 -- Assumes nothing.
 use Prim.Native.Nat.{◌-◌}
-use borrow.Author.Rules.{rules}
 use Rattle.casecheck.proofs.lent.put_short_queues.Given as goal
 
 abbrev pub invariant-loop-location : goal.invariant-loop-location

@@ -1,7 +1,6 @@
 -- Each move made brings the count nearer to its bound.
 -- Assumes nothing.
 use Prim.Native.Nat.{◌-◌}
-use borrow.Author.Rules.{rules}
 use Rattle.casecheck.proofs.moves.played.Given as goal
 
 abbrev pub invariant-loop-made : goal.invariant-loop-made

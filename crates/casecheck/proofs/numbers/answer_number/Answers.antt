@@ -1,7 +1,7 @@
 -- A refusal by its number.
 -- Assumes nothing.
 use mathlib.Core.Path.{sym, ap, ◌∙◌}
-use Rattle.semantics.specs.Answers.{refusal_number, answer_number}
+use Rattle.semantics.specs.Answers.{answer_number}
 use borrow.Author.Rules.{rules}
 use Rattle.casecheck.proofs.numbers.answer_number.Goals as goal
 

@@ -1,6 +1,6 @@
 -- Each refusal by its case.
 -- Assumes nothing.
-use Rattle.semantics.specs.Answers.{refusal_number, answer_number}
+use Rattle.semantics.specs.Answers.{refusal_number}
 use borrow.Author.Rules.{rules}
 use Rattle.casecheck.proofs.numbers.refusal_number.Goals as goal
 

@@ -1,7 +1,6 @@
 -- Each number below 128 in turn.
 -- Assumes nothing.
 use Prim.Native.Nat.{◌-◌}
-use borrow.Author.Rules.{rules}
 use Rattle.casecheck.proofs.searches.first_absent.Given as goal
 
 abbrev pub invariant-loop-task : goal.invariant-loop-task

@@ -2,7 +2,6 @@
 -- Assumes nothing.
 use mathlib.Core.Path.{sym}
 use lib.Seq.{length-take-le}
-use borrow.Author.Rules.{rules}
 use Rattle.casecheck.proofs.text.write_front.Goals as goal
 
 pub slice_bounds-write_all-end : goal.slice_bounds-write_all-end

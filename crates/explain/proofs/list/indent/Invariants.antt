@@ -1,7 +1,6 @@
 -- One more of so many.
 -- Assumes nothing.
 use Prim.Native.Nat.{◌-◌}
-use borrow.Author.Rules.{rules}
 use Rattle.explain.proofs.list.indent.Given as goal
 
 abbrev pub invariant-loop-i : goal.invariant-loop-i

@@ -1,7 +1,6 @@
 -- Each in turn; the next number is nearer to the count.
 -- Assumes nothing.
 use Prim.Native.Nat.{◌-◌}
-use borrow.Author.Rules.{rules}
 use Rattle.explain.proofs.list.print_bodies.Given as goal
 
 abbrev pub invariant-loop-s : goal.invariant-loop-s

@@ -1,7 +1,6 @@
 -- Each instruction in turn; the next place is nearer to the size.
 -- Assumes nothing.
 use Prim.Native.Nat.{◌-◌}
-use borrow.Author.Rules.{rules}
 use Rattle.explain.proofs.list.print_body.Given as goal
 
 abbrev pub invariant-loop-i : goal.invariant-loop-i

@@ -1,7 +1,6 @@
 -- Each line in turn; the next one is nearer to the size.
 -- Assumes nothing.
 use Prim.Native.Nat.{◌-◌}
-use borrow.Author.Rules.{rules}
 use Rattle.explain.proofs.list.print_footprint.Given as goal
 
 abbrev pub invariant-loop-j : goal.invariant-loop-j

@@ -1,7 +1,6 @@
 -- Each number in turn; the next one is nearer to the count.
 -- Assumes nothing.
 use Prim.Native.Nat.{◌-◌}
-use borrow.Author.Rules.{rules}
 use Rattle.explain.proofs.list.print_jobs.Given as goal
 
 abbrev pub invariant-loop-n : goal.invariant-loop-n

@@ -1,10 +1,8 @@
 -- Digit by digit, until the number is too large. Assumes nothing.
-use Prim.Native.Nat.{◌-◌, ◌^◌, ◌<◌, ◌≤◌}
-use mathlib.Core.Path.{refl, sym}
+use mathlib.Core.Path.{sym}
 use native.Mathlib.Omega.{arith}
-use lib.ListN.{length}
 use Rattle.host_bill.specs.Argument.{said}
-use Rattle.host_bill.proofs.ArgumentLaws.{pence_empty, pence_begins, Digits, digits_done, digits_low, digits_high, digits_large, digits_more}
+use Rattle.host_bill.proofs.ArgumentLaws.{pence_empty, pence_begins, digits_done, digits_low, digits_high, digits_large, digits_more}
 use borrow.Author.Rules.{rules}
 use Rattle.host_bill.proofs.argument.pence_in.Goals as goal
 

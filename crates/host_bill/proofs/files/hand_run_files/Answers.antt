@@ -7,7 +7,6 @@ use Rattle.semantics.specs.Run.{fixed_weights}
 use Rattle.semantics.specs.Sequential.{sequential}
 use Rattle.semantics.specs.Operations.{sequential_asked}
 use Rattle.wording.proofs.OpeningLaws.{asked_by}
-use borrow.Author.Rules.{rules}
 use Rattle.host_bill.proofs.files.hand_run_files.Goals as goal
 
 pub slice_bounds-sequential-end : goal.slice_bounds-sequential-end

@@ -1,8 +1,7 @@
 -- Nothing, the line of a failed open, or the run's. Assumes nothing.
 use native.Mathlib.Omega.{arith}
-use mathlib.Core.Path.{◌≡◌, sym, ◌∙◌}
+use mathlib.Core.Path.{sym, ◌∙◌}
 use Rattle.host_bill.proofs.BillLaws.{bill_short, bill_refused, bill_run}
-use borrow.Author.Rules.{rules}
 use Rattle.host_bill.proofs.lines.bill_lines.Goals as goal
 
 pub returns-then-out-lt-ROOM : goal.returns-then-out-lt-ROOM

@@ -1,8 +1,7 @@
 -- The line of a refusal, or the wards' lines and the sums. Assumes nothing.
 use native.Mathlib.Omega.{arith}
-use mathlib.Core.Path.{sym, ap, ◌∙◌}
+use mathlib.Core.Path.{sym, ◌∙◌}
 use Rattle.host_bill.proofs.BillLaws.{printed_refused, printed_shared}
-use borrow.Author.Rules.{rules}
 use Rattle.host_bill.proofs.lines.put_bill.Goals as goal
 
 pub returns-then-number-gt0 : goal.returns-then-number-gt0

@@ -1,7 +1,6 @@
 -- Word by word, each number of 11 bytes at most with what follows it. Assumes nothing.
 use native.Mathlib.Omega.{arith}
 use Rattle.host_bill.proofs.LineLaws.{told_put}
-use borrow.Author.Rules.{rules}
 use Rattle.host_bill.proofs.lines.put_line.Goals as goal
 
 pub returns : goal.returns

@@ -1,7 +1,6 @@
 -- The word, then the number. Assumes nothing.
 use native.Mathlib.Omega.{arith}
 use Rattle.host_bill.proofs.LineLaws.{refused_put}
-use borrow.Author.Rules.{rules}
 use Rattle.host_bill.proofs.lines.put_refused.Goals as goal
 
 pub returns : goal.returns

@@ -1,10 +1,7 @@
 -- Line by line: the lines that are still to be put would make them whole. Assumes nothing.
-use Prim.Native.Nat.{◌-◌}
-use mathlib.Core.Path.{◌≡◌, refl}
+use mathlib.Core.Path.{refl}
 use native.Mathlib.Omega.{arith}
-use Rattle.host_bill.specs.Promises.{Arrays}
-use Rattle.host_bill.proofs.LineLaws.{LinesPut, lines_none, lines_more, lines_all}
-use borrow.Author.Rules.{rules}
+use Rattle.host_bill.proofs.LineLaws.{lines_none, lines_more, lines_all}
 use Rattle.host_bill.proofs.lines.put_wards.Goals as goal
 
 pub loop-i-init : goal.loop-i-init

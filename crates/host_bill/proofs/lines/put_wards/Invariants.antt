@@ -1,9 +1,7 @@
 use Prim.Native.Nat.{◌-◌}
-use mathlib.Core.Path.{◌≡◌, refl}
-use native.Mathlib.Omega.{arith}
+use mathlib.Core.Path.{◌≡◌}
 use Rattle.host_bill.specs.Promises.{Arrays}
-use Rattle.host_bill.proofs.LineLaws.{LinesPut, lines_none, lines_more, lines_all}
-use borrow.Author.Rules.{rules}
+use Rattle.host_bill.proofs.LineLaws.{LinesPut}
 use Rattle.host_bill.proofs.lines.put_wards.Given as goal
 
 abbrev pub invariant-loop-i : goal.invariant-loop-i

@@ -1,7 +1,6 @@
 -- One number behind the other, each of 11 bytes at most with what follows it. Assumes nothing.
 use native.Mathlib.Omega.{arith}
 use Rattle.host_rounds.proofs.LineLaws.{row_put}
-use borrow.Author.Rules.{rules}
 use Rattle.host_rounds.proofs.lines.put_row.Goals as goal
 
 pub returns : goal.returns

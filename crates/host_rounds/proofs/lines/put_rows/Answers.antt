@@ -1,12 +1,9 @@
 -- Line by line: the lines that are still to be put would make the table whole. Assumes nothing.
-use Prim.Native.Nat.{◌-◌}
-use mathlib.Core.Path.{◌≡◌, refl}
+use mathlib.Core.Path.{refl}
 use native.Mathlib.Omega.{arith}
 use Rattle.model_rounds.specs.Rounds.{most_rounds}
-use Rattle.run_rounds.specs.Reports.{TableSize}
 use Rattle.host_rounds.specs.Promises.{rounds_at, calls_in}
-use Rattle.host_rounds.proofs.LineLaws.{LinesPut, lines_none, lines_row, lines_whole}
-use borrow.Author.Rules.{rules}
+use Rattle.host_rounds.proofs.LineLaws.{lines_none, lines_row, lines_whole}
 use Rattle.host_rounds.proofs.lines.put_rows.Goals as goal
 
 pub loop-i-init : goal.loop-i-init

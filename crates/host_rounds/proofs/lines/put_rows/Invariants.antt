@@ -1,11 +1,8 @@
 use Prim.Native.Nat.{◌-◌}
-use mathlib.Core.Path.{◌≡◌, refl}
-use native.Mathlib.Omega.{arith}
-use Rattle.model_rounds.specs.Rounds.{most_rounds}
+use mathlib.Core.Path.{◌≡◌}
 use Rattle.run_rounds.specs.Reports.{TableSize}
 use Rattle.host_rounds.specs.Promises.{rounds_at, calls_in}
-use Rattle.host_rounds.proofs.LineLaws.{LinesPut, lines_none, lines_row, lines_whole}
-use borrow.Author.Rules.{rules}
+use Rattle.host_rounds.proofs.LineLaws.{LinesPut}
 use Rattle.host_rounds.proofs.lines.put_rows.Given as goal
 
 abbrev pub invariant-loop-i : goal.invariant-loop-i

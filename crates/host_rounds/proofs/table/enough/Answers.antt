@@ -1,11 +1,8 @@
 -- The answer is that of the numbers of workers that are still to be looked at. Assumes nothing.
-use Prim.Native.Nat.{◌-◌, ◌≤◌}
 use mathlib.Core.Path.{◌≡◌, refl, sym, ap, ◌∙◌}
 use native.Mathlib.Omega.{arith}
-use Rattle.host_rounds.specs.Lines.{enough_from}
 use Rattle.host_rounds.specs.Promises.{rounds_at}
 use Rattle.host_rounds.proofs.LineLaws.{enough_left, enough_found, enough_on, enough_none, rounds_here}
-use borrow.Author.Rules.{rules}
 use Rattle.host_rounds.proofs.table.enough.Goals as goal
 
 pub loop-i-init : goal.loop-i-init

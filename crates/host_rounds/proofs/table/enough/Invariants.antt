@@ -1,10 +1,8 @@
 use Prim.Native.Nat.{◌-◌, ◌≤◌}
-use mathlib.Core.Path.{◌≡◌, refl, sym, ap, ◌∙◌}
-use native.Mathlib.Omega.{arith}
+use mathlib.Core.Path.{◌≡◌}
 use Rattle.host_rounds.specs.Lines.{enough_from}
 use Rattle.host_rounds.specs.Promises.{rounds_at}
-use Rattle.host_rounds.proofs.LineLaws.{enough_left, enough_found, enough_on, enough_none, rounds_here}
-use borrow.Author.Rules.{rules}
+use Rattle.host_rounds.proofs.LineLaws.{enough_left}
 use Rattle.host_rounds.proofs.table.enough.Given as goal
 
 abbrev pub invariant-loop-i : goal.invariant-loop-i

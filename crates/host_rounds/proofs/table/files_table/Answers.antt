@@ -5,7 +5,6 @@ use lib.ListN.{take}
 use lib.Seq.{length-take-le}
 use Rattle.semantics.specs.Run.{fixed_weights}
 use Rattle.host_rounds.proofs.FileLaws.{tabled_by}
-use borrow.Author.Rules.{rules}
 use Rattle.host_rounds.proofs.table.files_table.Goals as goal
 
 pub slice_bounds-rounds_table-end : goal.slice_bounds-rounds_table-end

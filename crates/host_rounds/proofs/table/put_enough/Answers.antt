@@ -4,7 +4,6 @@ use native.Mathlib.Omega.{arith}
 use Rattle.wording.specs.Promises.{PutAt}
 use Rattle.wording.proofs.PutLaws.{put_then}
 use Rattle.host_rounds.proofs.LineLaws.{enough_zero, enough_some}
-use borrow.Author.Rules.{rules}
 use Rattle.host_rounds.proofs.table.put_enough.Goals as goal
 
 pub returns-then-workers-eq0 : goal.returns-then-workers-eq0

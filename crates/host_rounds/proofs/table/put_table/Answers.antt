@@ -2,7 +2,6 @@
 use native.Mathlib.Omega.{arith}
 use Rattle.host_rounds.specs.Promises.{rounds_at, calls_in}
 use Rattle.host_rounds.proofs.LineLaws.{table_put}
-use borrow.Author.Rules.{rules}
 use Rattle.host_rounds.proofs.table.put_table.Goals as goal
 
 pub put_rows-fifth-requires : goal.put_rows-fifth-requires

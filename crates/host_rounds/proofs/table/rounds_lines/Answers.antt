@@ -9,7 +9,6 @@ use Rattle.host_rounds.specs.Lines.{table_lines, rounds_text}
 use Rattle.host_rounds.specs.Promises.{rounds_at, calls_in}
 use Rattle.wording.proofs.PutLaws.{put_wrote}
 use Rattle.host_rounds.proofs.FileLaws.{text_refused, text_given}
-use borrow.Author.Rules.{rules}
 use Rattle.host_rounds.proofs.table.rounds_lines.Goals as goal
 
 pub returns-then-out-lt-ROOM : goal.returns-then-out-lt-ROOM

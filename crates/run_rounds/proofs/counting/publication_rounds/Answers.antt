@@ -1,7 +1,6 @@
 -- The workers are tested, then open is asked, then the rounds are counted twice. Assumes nothing.
 use mathlib.Core.Path.{refl}
 use native.Mathlib.Omega.{arith}
-use borrow.Author.Rules.{rules}
 use Rattle.run_rounds.proofs.ReportLaws.{refused_alone, too_few, too_many, not_opened, counted}
 use Rattle.run_rounds.proofs.counting.publication_rounds.Goals as goal
 

@@ -1,8 +1,6 @@
 -- Place by place: the tallies of 1 to 16 workers, then the span. Assumes nothing.
-use Prim.Native.Nat.{◌-◌}
 use mathlib.Core.Path.{◌≡◌, refl, subst}
 use native.Mathlib.Omega.{arith}
-use borrow.Author.Rules.{rules}
 use Rattle.run_rounds.proofs.TableLaws.{Filled, filled_none, filled_more, no_table, whole_table}
 use Rattle.run_rounds.proofs.counting.rounds_table.Goals as goal
 

@@ -1,8 +1,5 @@
 use Prim.Native.Nat.{◌-◌}
-use mathlib.Core.Path.{◌≡◌, refl, subst}
-use native.Mathlib.Omega.{arith}
-use borrow.Author.Rules.{rules}
-use Rattle.run_rounds.proofs.TableLaws.{Filled, filled_none, filled_more, no_table, whole_table}
+use Rattle.run_rounds.proofs.TableLaws.{Filled}
 use Rattle.run_rounds.proofs.counting.rounds_table.Given as goal
 
 abbrev pub invariant-loop-i : goal.invariant-loop-i

@@ -1,9 +1,7 @@
 -- Round by round: those counted, and those still to come, are the model's. Assumes nothing.
-use Prim.Native.Nat.{◌-◌}
 use native.Mathlib.Omega.{arith}
 use lib.ListN.{length-take}
-use borrow.Author.Rules.{rules}
-use Rattle.run_rounds.proofs.TallyLaws.{Counting, counting_none, counted_out, counted_most, counting_more}
+use Rattle.run_rounds.proofs.TallyLaws.{counting_none, counted_out, counted_most, counting_more}
 use Rattle.run_rounds.proofs.counting.tally.Goals as goal
 
 pub loop-rounds-init : goal.loop-rounds-init

@@ -1,8 +1,5 @@
 use Prim.Native.Nat.{◌-◌}
-use native.Mathlib.Omega.{arith}
-use lib.ListN.{length-take}
-use borrow.Author.Rules.{rules}
-use Rattle.run_rounds.proofs.TallyLaws.{Counting, counting_none, counted_out, counted_most, counting_more}
+use Rattle.run_rounds.proofs.TallyLaws.{Counting}
 use Rattle.run_rounds.proofs.counting.tally.Given as goal
 
 abbrev pub invariant-loop-rounds : goal.invariant-loop-rounds

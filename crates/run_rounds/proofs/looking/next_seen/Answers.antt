@@ -4,7 +4,6 @@ use Prim.Native.Nat.{ℕ}
 use Rattle.looks.specs.Looks.{ReadyIn}
 use Rattle.looks.specs.declared.Located.TheVariants.{At}
 use Rattle.run_rounds.proofs.SeenLaws.{start_seen, end_seen, refused_seen, held_seen, free_seen}
-use borrow.Author.Rules.{rules}
 use Rattle.run_rounds.proofs.looking.next_seen.Goals.{In-At}
 use Rattle.run_rounds.proofs.looking.next_seen.Goals as goal
 

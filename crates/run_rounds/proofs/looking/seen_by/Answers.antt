@@ -1,7 +1,6 @@
 -- Case by case. Assumes nothing.
 use mathlib.Core.Path.{sym, ap}
 use Rattle.run_rounds.specs.Looking.{seen_by}
-use borrow.Author.Rules.{rules}
 use Rattle.run_rounds.proofs.looking.seen_by.Goals as goal
 
 pub returns-in-Refused : goal.returns-in-Refused

@@ -1,8 +1,9 @@
 // The files that the programs for a host read: jobs.bin and library.bin, each from its start up to its end or the buffer's.
 #![tactic(auto)]
 
-ghost use Rattle.std.specs.Prelude.{◌≡◌, ◌≤◌, length};
-ghost use Rattle.host_files.specs.Files.{size_of, Within};
+ghost use Rattle.std.specs.Prelude.{◌≡◌, ◌≤◌, length, take};
+ghost use Rattle.std.specs.Io.KnownBytes.{Consumes};
+ghost use Rattle.host_files.specs.Files.{size_of, Within, Front};
 
 use std::fs::{File, Files};
 use std::io::Read;
@@ -23,7 +24,8 @@ pub enum FileRead {
 
 // Reads a file that is open, up to its end or the buffer's.
 fn read_open<F: Read>(file: &mut F, buf: &mut [u8]) -> FileRead
-    ensures { Within result buf.new }
+    ensures within { Within result buf.new }
+    ensures front { Front (F.remaining file.old) (F.remaining file.new) result buf.new }
 {
     let mut done = 0;
     while done < buf.len() {
@@ -55,7 +57,8 @@ pub fn read_file<R: Files>(rt: &R, name: &[u8], buf: &mut [u8]) -> FileRead
 
 // Reads into a buffer until it is full, the file ends or a read fails, and returns how many bytes that are.
 pub fn fill<F: Read>(file: &mut F, buf: &mut [u8]) -> usize
-    ensures { result ≤ length buf.new }
+    ensures most { result ≤ length buf.new }
+    ensures bytes { Consumes (F.remaining file.old) (F.remaining file.new) (take result buf.new) }
 {
     let mut filled = 0;
     while filled < buf.len() {

@@ -166,7 +166,7 @@ prints_the_transcript jobs library o h pieces shown t = by_case (asked_case jobs
     refusal : (k : ℕ) → 1 ≤ k → Unopened k o → shown ≡ refused_line k
     refusal zero some u = let z : ⊥ = omega arith in absurd z
     refusal (suc k) some u =
-        printed_is 11 (open_bytes (suc k)) shown (subst (λ n. Coordinated n o pieces shown) u.answer t) ∙ refl
+        printed_is 11 (open_bytes (suc k)) shown (subst (λ n. Coordinated n o pieces shown) u.answer t)
 
     running :
         (l : TaskList) → decode jobs ≡ accepted l → Running jobs fixed_weights (initial (context l fixed_weights) memory) o
@@ -177,7 +177,6 @@ prints_the_transcript jobs library o h pieces shown t = by_case (asked_case jobs
         session_lines pieces o.run Nothing shown r.sound (subst (λ n. Coordinated n o pieces shown) r.answer t)
         ∙ ap (λ m. lines_from (context_of o.run) m (pending_bytes Nothing ++ input)) r.run
         ∙ ap (λ c. lines_from c (initial (context l fixed_weights) memory) (pending_bytes Nothing ++ input)) under
-        ∙ refl
 
     opened : Asked Semantics.Run → Type 0
     opened a = OpenedAs jobs fixed_weights a o

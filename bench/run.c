@@ -329,7 +329,7 @@ static void table(void) {
     row("a call lent | a call of replay", LENT, 1, PIECE, REPLAY, 1, PIECE, "none");
     printf("%-52s %9s %9s %8s  %s\n", "accepted calls, opening left out", "ns a call", "a second", "", "middle half, ns");
     calls("  hand run: changes put in place", HAND_PROVED, CALLS);
-    calls("  replay: the public start, step, end", REPLAY, PIECE);
+    calls("  replay: try_start, try_step, try_end", REPLAY, PIECE);
     calls("  lent: start_in, step_in, end_in", LENT, PIECE);
 }
 

@@ -1,15 +1,17 @@
 -- Laws of the search: a look at several items from the front, the accesses of a row, and the model's answer by the table of
 -- modes. Assumes nothing.
-use Prim.Native.Nat.{ℕ, zero, suc, ◌+◌, ◌≤◌, ◌<◌}
+use Prim.Native.Nat.{ℕ, zero, suc, ◌+◌, ◌≤◌, ◌<◌, min}
+use Rattle.std.proofs.lemmas.List.{take_min, map-append}
 use mathlib.Core.Path.{◌≡◌, refl, sym, ap, subst, ◌∙◌}
 use mathlib.Core.List.{List, [], ◌∷◌, ◌++◌, append-nil}
-use mathlib.Core.Bool.{Bool, true, false, false≢true, not, ◌&&◌}
-use mathlib.Core.Logic.{◌≢◌, inl, inr}
+use mathlib.Core.Bool.{Bool, true, false, false≢true, ◌&&◌, ◌||◌, and-true, or-false}
+use Rattle.std.proofs.Math.Bool.{or_assoc, and_assoc}
+use Rattle.std.proofs.lemmas.Bool.{or_left, or_right, or_parts, or_from, and_right}
+use mathlib.Core.Logic.{◌≢◌, ◌⊎◌, inl, inr}
 use native.Mathlib.Omega.{arith}
-use native.Mathlib.Nat.{zero-add}
 use native.Mathlib.Numerals.{add-one}
-use lib.ListN.{length, take, drop, get_or, set, length-take, drop_of_length-le}
-use lib.Seq.{drop-cons, get_or-take, take-suc-set, append_snoc}
+use lib.ListN.{length, take, drop, get_or, set, length-map, get_or-map, drop_of_length-le}
+use lib.Seq.{drop-cons, take-suc, take-suc-set, take_all, append_snoc}
 use lib.Dec.{leb, eqb}
 use borrow.Author.Tests.{lt-leb, eq-eqb, ne_eqb}
 use Rattle.semantics.specs.Run.{Run, mode_of, task_of}
@@ -24,9 +26,9 @@ use Rattle.semantics.specs.Search as Model
 use Rattle.ahead.specs.declared.Hold.{Hold}
 use Rattle.ahead.specs.declared.Hold.TheVariants.{Free, Writer, Others}
 use Rattle.ahead.specs.declared.Searched.{Searched}
-use Rattle.ahead.specs.declared.Wanted.{Wanted}
+use Rattle.ahead.specs.declared.Access as Declared
 use Rattle.arrays.specs.Rows.{row}
-use Rattle.ahead.specs.Ahead.{access, accesses, accesses_of, writes_one, passes_all, held_by, hold_ahead, first_place, searched_ahead, found_by, found_of}
+use Rattle.ahead.specs.Ahead.{access, accesses_of, writes_one, passes_all, held_by, hold_ahead, first_place, searched_ahead, found_by, found_of}
 
 -- the table of the model, row by row
 pub none_ahead : (a : ℕ) → leb a 3 ≡ compatible 0 a
@@ -53,105 +55,109 @@ write_ahead (suc (suc zero)) = refl
 write_ahead (suc (suc (suc zero))) = refl
 write_ahead (suc (suc (suc (suc a)))) = ne_eqb (suc (suc (suc (suc a)))) 0 (λ q. omega arith)
 
-pub none_passes_sum : true ≡ compatible 3 0
+pub none_or_sum_ahead : (a : ℕ) → (a ≡ 0) ⊎ (a ≡ 3) → true ≡ compatible 3 a
 unfolding compatible
-none_passes_sum = refl
+none_or_sum_ahead a (inl q) = rw q refl
+none_or_sum_ahead a (inr q) = rw q refl
 
-pub sum_ahead : (a : ℕ) → a ≢ 0 → eqb a 3 ≡ compatible 3 a
+pub other_asked : (a : ℕ) → a ≢ 0 → a ≢ 3 → false ≡ compatible 3 a
 unfolding compatible
-sum_ahead zero h = absurd (h refl)
-sum_ahead (suc zero) h = refl
-sum_ahead (suc (suc zero)) h = refl
-sum_ahead (suc (suc (suc zero))) h = refl
-sum_ahead (suc (suc (suc (suc a)))) h = ne_eqb (suc (suc (suc (suc a)))) 3 (λ q. omega arith)
+other_asked zero p q = absurd (p refl)
+other_asked (suc zero) p q = refl
+other_asked (suc (suc zero)) p q = refl
+other_asked (suc (suc (suc zero))) p q = absurd (q refl)
+other_asked (suc (suc (suc (suc a)))) p q = refl
 
-pub other_ahead : (m a : ℕ) → m ≢ 0 → m ≢ 1 → m ≢ 2 → m ≢ 3 → false ≡ compatible m a
+pub other_ahead : (m a : ℕ) → 3 < m → false ≡ compatible m a
 unfolding compatible
-other_ahead zero a p q r s = absurd (p refl)
-other_ahead (suc zero) a p q r s = absurd (q refl)
-other_ahead (suc (suc zero)) a p q r s = absurd (r refl)
-other_ahead (suc (suc (suc zero))) a p q r s = absurd (s refl)
-other_ahead (suc (suc (suc (suc m)))) a p q r s = refl
+other_ahead zero a h = absurd (omega arith)
+other_ahead (suc zero) a h = absurd (omega arith)
+other_ahead (suc (suc zero)) a h = absurd (omega arith)
+other_ahead (suc (suc (suc zero))) a h = absurd (omega arith)
+other_ahead (suc (suc (suc (suc m)))) a h = refl
 
-abbrev pub searched : Hold → ℕ → Searched
-searched hold looked = record { hold = hold; looked = looked }
+-- A search from the front over xs: none of the first i is a writer, and the hold says whether they all pass.
+module _ {A : Type 0} (writes passes : A → Bool) where
+  any_more : (l : List A) (a : A) → any writes (l ++ a ∷ []) ≡ (any writes l || writes a)
+  unfolding any
+  any_more [] a = or-false (writes a)
+  any_more (x ∷ l) a = ap (λ b. writes x || b) (any_more l a) ∙ sym (or_assoc (writes x) (any writes l) (writes a))
 
--- A search from the front over xs, of which i have been looked at: none of them is a writer, and `others` says whether one
--- of them did not pass.
-module _ {A : Type 0} (writes passes : A → Bool) (xs : List A) where
-  pub record Scanned (others : Bool) (i : ℕ) : Type 0 where
-    pub writer : any writes xs ≡ any writes (drop i xs)
-    pub passed : every passes xs ≡ (not others && every passes (drop i xs))
-    pub place : first_place writes xs ≡ i + first_place writes (drop i xs)
+  every_more : (l : List A) (a : A) → every passes (l ++ a ∷ []) ≡ (every passes l && passes a)
+  unfolding every
+  every_more [] a = and-true (passes a)
+  every_more (x ∷ l) a = ap (λ b. passes x && b) (every_more l a) ∙ sym (and_assoc (passes x) (every passes l) (passes a))
 
-  pub scan_none : Scanned false 0
-  scan_none = record { writer = refl; passed = refl; place = sym (zero-add (first_place writes xs)) }
+  any_here : (xs : List A) (i : ℕ) (d : A) → i < length xs → writes (get_or xs i d) ≡ true → any writes xs ≡ true
+  unfolding any
+  any_here [] i d h w = absurd (omega arith)
+  any_here (x ∷ xs) zero d h w = or_left (writes x) (any writes xs) w
+  any_here (x ∷ xs) (suc i) d h w = or_right (writes x) (any writes xs) (any_here xs i d (omega arith) w)
 
-  module _ (others : Bool) (i : ℕ) (d : A) (inside : i < length xs) (e : Scanned others i) where
-    opened : drop i xs ≡ get_or xs i d ∷ drop (suc i) xs
-    opened = drop-cons xs i d inside
+  -- the first place of a writer
+  place_here : (xs : List A) (i : ℕ) (d : A) → i < length xs → any writes (take i xs) ≡ false → writes (get_or xs i d) ≡ true
+      → suc i ≡ first_place writes xs
+  unfolding any first_place
+  place_here [] i d h f w = absurd (omega arith)
+  place_here (x ∷ xs) zero d h f w = rw w refl
+  place_here (x ∷ xs) (suc i) d h f w =
+      let p = or_parts (writes x) (any writes (take i xs)) f in
+      rw (p.0) (ap suc (place_here xs i d (omega arith) p.1 w))
 
-    pub scan_writer : writes (get_or xs i d) ≡ true → Writer ≡ held_by (any writes xs) (every passes xs)
-    unfolding any
-    scan_writer w = ap (λ b. held_by b (every passes xs)) (sym found)
-      where
-        found : any writes xs ≡ true
-        found = e.writer ∙ ap (any writes) opened ∙ (rw w refl)
+  place_none : (xs : List A) → any writes xs ≡ false → suc (length xs) ≡ first_place writes xs
+  unfolding any first_place
+  place_none [] f = refl
+  place_none (x ∷ xs) f = let p = or_parts (writes x) (any writes xs) f in rw (p.0) (ap suc (place_none xs p.1))
 
-    pub scan_stop : writes (get_or xs i d) ≡ true → i + 1 ≡ first_place writes xs
-    unfolding first_place
-    scan_stop w = sym (e.place ∙ ap (λ l. i + first_place writes l) opened ∙ (rw w refl))
+  module _ (xs : List A) where
+    pub record Scanned (hold : Hold) (i : ℕ) : Type 0 where
+      pub none : any writes (take i xs) ≡ false
+      pub told : hold ≡ held_by false (every passes (take i xs))
 
-    module _ (w : writes (get_or xs i d) ≡ false) where
-      on : any writes xs ≡ any writes (drop (suc i) xs)
-      unfolding any
-      on = e.writer ∙ ap (any writes) opened ∙ (rw w refl)
+    pub scan_none : Scanned Free 0
+    unfolding any every
+    scan_none = record { none = refl; told = refl }
 
-      place_on : first_place writes xs ≡ suc i + first_place writes (drop (suc i) xs)
-      unfolding first_place
-      place_on =
-          e.place ∙ ap (λ l. i + first_place writes l) opened
-          ∙ (rw w (let n = first_place writes (drop (suc i) xs) in omega arith))
+    module _ (hold : Hold) (i : ℕ) (d : A) (inside : i < length xs) (e : Scanned hold i) where
+      pub scan_writer : writes (get_or xs i d) ≡ true → Writer ≡ held_by (any writes xs) (every passes xs)
+      scan_writer w = ap (λ b. held_by b (every passes xs)) (sym (any_here xs i d inside w))
 
-      pub scan_pass : passes (get_or xs i d) ≡ true → Scanned others (i + 1)
-      unfolding every
-      scan_pass p =
-          rw (add-one i)
-          record {
-            writer = on;
-            passed = e.passed ∙ ap (λ l. not others && every passes l) opened ∙ (rw p refl);
-            place = place_on;
-          }
+      pub scan_stop : writes (get_or xs i d) ≡ true → i + 1 ≡ first_place writes xs
+      scan_stop w = rw (add-one i) (place_here xs i d inside e.none w)
 
-      pub scan_other : passes (get_or xs i d) ≡ false → Scanned true (i + 1)
-      unfolding every
-      scan_other p =
-          rw (add-one i)
-          record {
-            writer = on;
-            passed = e.passed ∙ ap (λ l. not others && every passes l) opened ∙ (rw p (and_false (not others)));
-            place = place_on;
-          }
-        where
-          and_false : (b : Bool) → (b && false) ≡ false
-          and_false true = refl
-          and_false false = refl
+      module _ (w : writes (get_or xs i d) ≡ false) where
+        one_more : take (i + 1) xs ≡ take i xs ++ get_or xs i d ∷ []
+        one_more = rw (add-one i) (take-suc xs i d inside)
 
-  pub scan_end : (others : Bool) (i : ℕ) → length xs ≤ i → Scanned others i → i + 1 ≡ first_place writes xs
-  unfolding first_place
-  scan_end others i h e = sym (e.place ∙ ap (λ l. i + first_place writes l) (drop_of_length-le xs h))
+        none_on : any writes (take (i + 1) xs) ≡ false
+        none_on =
+            ap (any writes) one_more ∙ any_more (take i xs) (get_or xs i d)
+            ∙ or_from (any writes (take i xs)) (writes (get_or xs i d)) e.none w
 
-  pub scan_all :
-      (others : Bool) (i : ℕ) → length xs ≤ i → Scanned others i
-      → held_by false (not others) ≡ held_by (any writes xs) (every passes xs)
-  unfolding any every
-  scan_all others i h e =
-      ap (held_by false) (sym (e.passed ∙ ap (λ l. not others && every passes l) (drop_of_length-le xs h) ∙ and_true (not others)))
-      ∙ ap (λ b. held_by b (every passes xs)) (sym (e.writer ∙ ap (any writes) (drop_of_length-le xs h)))
-    where
-      and_true : (b : Bool) → (b && true) ≡ b
-      and_true true = refl
-      and_true false = refl
+        every_on : every passes (take (i + 1) xs) ≡ (every passes (take i xs) && passes (get_or xs i d))
+        every_on = ap (every passes) one_more ∙ every_more (take i xs) (get_or xs i d)
+
+        pub scan_pass : (after : Hold) → after ≡ hold → passes (get_or xs i d) ≡ true → Scanned after (i + 1)
+        scan_pass after is p =
+            let on = every_on ∙ ap (λ b. every passes (take i xs) && b) p ∙ and-true (every passes (take i xs)) in
+            record { none = none_on; told = is ∙ e.told ∙ ap (held_by false) (sym on) }
+
+        pub scan_other : (after : Hold) → after ≡ Others → passes (get_or xs i d) ≡ false → Scanned after (i + 1)
+        scan_other after is p =
+            let on = every_on ∙ and_right (every passes (take i xs)) (passes (get_or xs i d)) p in
+            record { none = none_on; told = is ∙ ap (held_by false) (sym on) }
+
+    module _ (hold : Hold) (i : ℕ) (all : length xs ≤ i) (e : Scanned hold i) where
+      whole : take i xs ≡ xs
+      whole = take_all i xs all
+
+      pub scan_all : hold ≡ held_by (any writes xs) (every passes xs)
+      scan_all =
+          e.told ∙ ap (λ l. held_by false (every passes l)) whole
+          ∙ ap (λ b. held_by b (every passes xs)) (sym e.none ∙ ap (any writes) whole)
+
+      pub scan_end : length xs + 1 ≡ first_place writes xs
+      scan_end = rw (add-one (length xs)) (place_none xs (ap (any writes) (sym whole) ∙ e.none))
 
 -- what a hold says: whether there is a writer, and whether all pass
 abbrev pub Says : Hold → Bool → Bool → Type 0
@@ -167,197 +173,176 @@ held_says h writer passed q = subst (λ x. Says x writer passed) (sym q) (sort w
     sort false true = (refl, refl)
     sort false false = (refl, refl)
 
--- The accesses of two arrays.
-accesses_length : (ls ms : List ℕ) → length ls ≡ length ms → length (accesses ls ms) ≡ length ls
-unfolding accesses
-accesses_length [] ms h = refl
-accesses_length (a ∷ ls) [] h = let bad : ⊥ = omega arith in absurd bad
-accesses_length (a ∷ ls) (m ∷ ms) h = ap suc (accesses_length ls ms (omega arith))
-
-accesses_at : (ls ms : List ℕ) (i : ℕ) → i < length ls → i < length ms → get_or (accesses ls ms) i (access 0 0) ≡ access (get_or ls i 0) (get_or ms i 0)
-unfolding accesses
-accesses_at [] ms i h k = let bad : ⊥ = omega arith in absurd bad
-accesses_at (a ∷ ls) [] i h k = let bad : ⊥ = omega arith in absurd bad
-accesses_at (a ∷ ls) (m ∷ ms) zero h k = refl
-accesses_at (a ∷ ls) (m ∷ ms) (suc i) h k = accesses_at ls ms i (omega arith) (omega arith)
-
-accesses_set : (ls ms : List ℕ) (i a m : ℕ) → accesses (set ls i a) (set ms i m) ≡ set (accesses ls ms) i (access a m)
-unfolding accesses
-accesses_set [] ms i a m = refl
-accesses_set (x ∷ ls) [] zero a m = refl
-accesses_set (x ∷ ls) [] (suc i) a m = refl
-accesses_set (x ∷ ls) (y ∷ ms) zero a m = refl
-accesses_set (x ∷ ls) (y ∷ ms) (suc i) a m = ap (λ l. access x y ∷ l) (accesses_set ls ms i a m)
+abbrev blank : Declared.Access
+blank = record { location = 0; asked = 0 }
 
 -- The accesses of a row, of which the first i locations have been looked at.
-module _ (wanted : List ℕ) where
-  pub Collected : List ℕ → List ℕ → ℕ → ℕ → Type 0
-  Collected ls ms count i = take count (accesses ls ms) ++ needs_from i (drop i wanted) ≡ needs_from 0 wanted
+accesses_more : (gs : List Declared.Access) (g : Declared.Access) → accesses_of (gs ++ g ∷ []) ≡ accesses_of gs ++ access g.location g.asked ∷ []
+unfolding accesses_of
+accesses_more gs g = map-append (λ x. access x.location x.asked) gs (g ∷ [])
 
-  pub collect_none : (ls ms : List ℕ) → Collected ls ms 0 0
-  unfolding Collected
-  collect_none ls ms = refl
+module _ (row : List ℕ) where
+  pub Collected : List Declared.Access → ℕ → Type 0
+  Collected gs i = accesses_of gs ++ needs_from i (drop i row) ≡ needs_from 0 row
 
-  collect_opened : (i m : ℕ) → i < length wanted → get_or wanted i 0 ≡ m → drop i wanted ≡ m ∷ drop (suc i) wanted
-  collect_opened i m h e = drop-cons wanted i 0 h ∙ ap (λ k. k ∷ drop (suc i) wanted) e
+  pub collect_none : Collected [] 0
+  unfolding Collected accesses_of
+  collect_none = refl
 
-  module _ (ls ms : List ℕ) (count i m : ℕ) (inside : i < length wanted) (here : m ≡ get_or wanted i 0) (e : Collected ls ms count i) where
-    pub collect_skip : m ≡ 0 → Collected ls ms count (i + 1)
+  opened : (i m : ℕ) → i < length row → m ≡ get_or row i 0 → drop i row ≡ m ∷ drop (suc i) row
+  opened i m h e = drop-cons row i 0 h ∙ ap (λ k. k ∷ drop (suc i) row) (sym e)
+
+  module _ (gs : List Declared.Access) (i m : ℕ) (inside : i < length row) (here : m ≡ get_or row i 0) (e : Collected gs i) where
+    pub collect_skip : m ≡ 0 → Collected gs (i + 1)
     unfolding Collected needs_from
     collect_skip z =
         rw (add-one i)
-        (ap (λ l. take count (accesses ls ms) ++ needs_from i l) (sym (collect_opened i 0 inside (sym here ∙ z))) ∙ e)
+        (ap (λ l. accesses_of gs ++ needs_from i l) (sym (opened i 0 inside (sym z ∙ here))) ∙ e)
 
-    pub collect_next :
-        m ≢ 0 → length ls ≡ 64 → length ms ≡ 64 → count < 64 → Collected (set ls count i) (set ms count m) (count + 1) (i + 1)
-    collect_next z la lm room = sort m here z
+    pub collect_next : m ≢ 0 → Collected (gs ++ record { location = i; asked = m } ∷ []) (i + 1)
+    collect_next z = sort m here z
       where
-        sort : (x : ℕ) → x ≡ get_or wanted i 0 → x ≢ 0 → Collected (set ls count i) (set ms count x) (count + 1) (i + 1)
+        sort : (x : ℕ) → x ≡ get_or row i 0 → x ≢ 0 → Collected (gs ++ record { location = i; asked = x } ∷ []) (i + 1)
         sort zero h z = absurd (z refl)
         sort (suc x) h z =
             unfold Collected needs_from in
-            rw (add-one i, add-one count, accesses_set ls ms count i (suc x))
-            (ap (λ l. l ++ needs_from (suc i) (drop (suc i) wanted))
-            (take-suc-set (accesses ls ms) count (access i (suc x)) (omega (arith, accesses_length ls ms (la ∙ sym lm))))
-            ∙ append_snoc (take count (accesses ls ms)) (access i (suc x)) (needs_from (suc i) (drop (suc i) wanted))
-            ∙ ap (λ l. take count (accesses ls ms) ++ needs_from i l) (sym (collect_opened i (suc x) inside (sym h)))
+            rw (add-one i, accesses_more gs (record { location = i; asked = suc x }))
+            (append_snoc (accesses_of gs) (access i (suc x)) (needs_from (suc i) (drop (suc i) row))
+            ∙ ap (λ l. accesses_of gs ++ needs_from i l) (sym (opened i (suc x) inside h))
             ∙ e)
 
-  pub collect_all : (ls ms : List ℕ) (count i : ℕ) → length wanted ≤ i → Collected ls ms count i → take count (accesses ls ms) ≡ needs_from 0 wanted
-  unfolding Collected needs_from
-  collect_all ls ms count i h e =
-      sym (append-nil (take count (accesses ls ms)))
-      ∙ ap (λ l. take count (accesses ls ms) ++ needs_from i l) (sym (drop_of_length-le wanted h)) ∙ e
+  -- the next of an array
+  pub collect_set :
+      (accesses : List Declared.Access) (count i m : ℕ) → count < length accesses → i < length row → m ≡ get_or row i 0
+      → Collected (take count accesses) i → m ≢ 0 → Collected (take (count + 1) (set accesses count (record { location = i; asked = m }))) (i + 1)
+  collect_set accesses count i m room inside here e z =
+      subst (λ gs. Collected gs (i + 1)) (sym (rw (add-one count) (take-suc-set accesses count (record { location = i; asked = m }) room)))
+      (collect_next (take count accesses) i m inside here e z)
 
--- One task ahead, and the first i accesses.
-module _ (modes : List ℕ) (task : ℕ) (w : Wanted) where
+  pub collect_all : (gs : List Declared.Access) (i : ℕ) → length row ≤ i → Collected gs i → accesses_of gs ≡ needs_from 0 row
+  unfolding Collected needs_from
+  collect_all gs i h e =
+      sym (append-nil (accesses_of gs)) ∙ ap (λ l. accesses_of gs ++ needs_from i l) (sym (drop_of_length-le row h)) ∙ e
+
+length_accesses : (gs : List Declared.Access) → length (accesses_of gs) ≡ length gs
+unfolding accesses_of
+length_accesses gs = length-map gs (λ g. access g.location g.asked)
+
+-- One task ahead, and the first i of the accesses.
+module _ (modes : List ℕ) (task : ℕ) (gs : List Declared.Access) where
   abbrev writes_at : Access → Bool
   writes_at g = eqb (get_or (row task modes) g.location 0) 2
 
   abbrev passes_at : Access → Bool
   passes_at g = compatible (get_or (row task modes) g.location 0) g.mode
 
-  pub Looked : Bool → ℕ → Type 0
-  Looked others i = Scanned writes_at passes_at (accesses_of w) others i
+  pub LookedTo : Hold → ℕ → Type 0
+  LookedTo = Scanned writes_at passes_at (accesses_of gs)
 
-  abbrev pub told_by : Hold
-  told_by = held_by (writes_one modes (accesses_of w) task) (passes_all modes (accesses_of w) task)
+  abbrev told_by : Hold
+  told_by = held_by (writes_one modes (accesses_of gs) task) (passes_all modes (accesses_of gs) task)
 
-  pub looked_none : Looked false 0
-  unfolding Looked
-  looked_none = scan_none writes_at passes_at (accesses_of w)
+  pub looked_none : LookedTo Free 0
+  unfolding LookedTo
+  looked_none = scan_none writes_at passes_at (accesses_of gs)
 
-  module _ (la : length w.locations ≡ 64) (lm : length w.asked ≡ 64) where
-    inside : (i : ℕ) → i < 64 → i < w.count → i < length (accesses_of w)
-    unfolding accesses_of
-    inside i h k = omega (arith, accesses_length w.locations w.asked (la ∙ sym lm), length-take w.count (accesses w.locations w.asked))
+  pub looked_all : (hold : Hold) (i : ℕ) → length gs ≤ i → LookedTo hold i → hold ≡ told_by
+  unfolding LookedTo accesses_of writes_one passes_all
+  looked_all hold i h e = scan_all writes_at passes_at (accesses_of gs) hold i (omega (arith, length_accesses gs)) e
 
-    pub looked_all : (others : Bool) (i : ℕ) → w.count ≤ i → Looked others i → held_by false (not others) ≡ told_by
-    unfolding Looked writes_one passes_all
-    looked_all others i h e =
-        scan_all writes_at passes_at (accesses_of w) others i
-        (unfold accesses_of in omega (arith, length-take w.count (accesses w.locations w.asked))) e
+  -- the access at place i
+  module _
+      (hold : Hold) (i location mode : ℕ) (inside : i < length gs) (there : location ≡ (get_or gs i blank).location)
+      (m : mode ≡ get_or (row task modes) location 0) (e : LookedTo hold i)
+    where
+      here : get_or (accesses_of gs) i (access 0 0) ≡ access location (get_or gs i blank).asked
+      unfolding accesses_of
+      here = get_or-map (λ g. access g.location g.asked) gs i blank ∙ ap (λ x. access x (get_or gs i blank).asked) (sym there)
 
-    pub looked_whole : (others : Bool) (i : ℕ) → 64 ≤ i → Looked others i → held_by false (not others) ≡ told_by
-    unfolding Looked writes_one passes_all
-    looked_whole others i h e =
-        scan_all writes_at passes_at (accesses_of w) others i
-        (unfold accesses_of in
-        omega (arith, accesses_length w.locations w.asked (la ∙ sym lm), length-take w.count (accesses w.locations w.asked))) e
+      within : i < length (accesses_of gs)
+      within = omega (arith, length_accesses gs)
 
-    module _
-        (others : Bool) (i location mode : ℕ) (b : i < 64) (h : i < w.count) (a : location ≡ get_or w.locations i 0)
-        (m : mode ≡ get_or (row task modes) location 0) (e : Looked others i)
-      where
-        here : get_or (accesses_of w) i (access 0 0) ≡ access location (get_or w.asked i 0)
-        unfolding accesses_of
-        here =
-            get_or-take w.count (accesses w.locations w.asked) i (access 0 0) h
-            ∙ accesses_at w.locations w.asked i (omega arith) (omega arith) ∙ ap (λ x. access x (get_or w.asked i 0)) (sym a)
+      mode_here : writes_at (get_or (accesses_of gs) i (access 0 0)) ≡ eqb mode 2
+      mode_here = ap writes_at here ∙ ap (λ x. eqb x 2) (sym m)
 
-        mode_here : writes_at (get_or (accesses_of w) i (access 0 0)) ≡ eqb mode 2
-        mode_here = ap writes_at here ∙ ap (λ x. eqb x 2) (sym m)
+      passes_here : passes_at (get_or (accesses_of gs) i (access 0 0)) ≡ compatible mode (get_or gs i blank).asked
+      passes_here = ap passes_at here ∙ ap (λ x. compatible x (get_or gs i blank).asked) (sym m)
 
-        passes_here : passes_at (get_or (accesses_of w) i (access 0 0)) ≡ compatible mode (get_or w.asked i 0)
-        passes_here = ap passes_at here ∙ ap (λ x. compatible x (get_or w.asked i 0)) (sym m)
+      pub looked_writer : mode ≡ 2 → Writer ≡ told_by
+      unfolding LookedTo writes_one passes_all
+      looked_writer q =
+          scan_writer writes_at passes_at (accesses_of gs) hold i (access 0 0) within e (mode_here ∙ eq-eqb mode 2 q)
 
-        pub looked_writer : mode ≡ 2 → Writer ≡ told_by
-        unfolding Looked writes_one passes_all
-        looked_writer q =
-            scan_writer writes_at passes_at (accesses_of w) others i (access 0 0) (inside i b h) e (mode_here ∙ eq-eqb mode 2 q)
+      module _ (q : mode ≢ 2) (after : Hold) where
+        pub looked_pass : after ≡ hold → true ≡ compatible mode (get_or gs i blank).asked → LookedTo after (i + 1)
+        unfolding LookedTo
+        looked_pass is p =
+            scan_pass writes_at passes_at (accesses_of gs) hold i (access 0 0) within e (mode_here ∙ ne_eqb mode 2 q) after is
+            (passes_here ∙ sym p)
 
-        module _ (q : mode ≢ 2) where
-          pub looked_pass : true ≡ compatible mode (get_or w.asked i 0) → Looked others (i + 1)
-          unfolding Looked
-          looked_pass p =
-              scan_pass writes_at passes_at (accesses_of w) others i (access 0 0) (inside i b h) e (mode_here ∙ ne_eqb mode 2 q)
-              (passes_here ∙ sym p)
+        pub looked_other : after ≡ Others → false ≡ compatible mode (get_or gs i blank).asked → LookedTo after (i + 1)
+        unfolding LookedTo
+        looked_other is p =
+            scan_other writes_at passes_at (accesses_of gs) hold i (access 0 0) within e (mode_here ∙ ne_eqb mode 2 q) after is
+            (passes_here ∙ sym p)
 
-          pub looked_other : false ≡ compatible mode (get_or w.asked i 0) → Looked true (i + 1)
-          unfolding Looked
-          looked_other p =
-              scan_other writes_at passes_at (accesses_of w) others i (access 0 0) (inside i b h) e (mode_here ∙ ne_eqb mode 2 q)
-              (passes_here ∙ sym p)
+-- The tasks ahead, of which i have been looked at.
+module _ (modes : List ℕ) (gs : List Access) (tasks : List ℕ) where
+  pub SearchedTo : Hold → ℕ → Type 0
+  SearchedTo = Scanned (writes_one modes gs) (passes_all modes gs) tasks
 
--- The first `at` of the order, of which i have been looked at.
-module _ (modes order : List ℕ) (at : ℕ) (gs : List Access) where
-  pub SearchedTo : Bool → ℕ → Type 0
-  SearchedTo others i = Scanned (writes_one modes gs) (passes_all modes gs) (take at order) others i
+  abbrev searched : Hold → ℕ → Searched
+  searched hold looked = record { hold = hold; looked = looked }
+
+  pub searched_none : SearchedTo Free 0
+  unfolding SearchedTo
+  searched_none = scan_none (writes_one modes gs) (passes_all modes gs) tasks
 
   -- the search's answer by its two parts
-  answer : (h : Hold) (place : ℕ) → h ≡ hold_ahead modes (take at order) gs → place ≡ first_place (writes_one modes gs) (take at order)
-      → searched h place ≡ searched_ahead modes (take at order) gs
+  answer : (h : Hold) (place : ℕ) → h ≡ hold_ahead modes tasks gs → place ≡ first_place (writes_one modes gs) tasks
+      → searched h place ≡ searched_ahead modes tasks gs
   unfolding searched_ahead
-  answer h place q p = ap (λ x. searched x place) q ∙ ap (searched (hold_ahead modes (take at order) gs)) p
+  answer h place q p = ap (λ x. searched x place) q ∙ ap (searched (hold_ahead modes tasks gs)) p
 
-  pub searched_none : SearchedTo false 0
-  unfolding SearchedTo
-  searched_none = scan_none (writes_one modes gs) (passes_all modes gs) (take at order)
-
-  module _ (others : Bool) (i : ℕ) (hold : Hold) (told : hold ≡ held_by false (not others)) (e : SearchedTo others i) where
-    ends : length (take at order) ≤ i → searched hold (i + 1) ≡ searched_ahead modes (take at order) gs
+  module _ (others : Hold) (i : ℕ) (e : SearchedTo others i) where
+    pub searched_all : length tasks ≤ i → searched others (length tasks + 1) ≡ searched_ahead modes tasks gs
     unfolding SearchedTo hold_ahead
-    ends h =
-        answer hold (i + 1) (told ∙ scan_all (writes_one modes gs) (passes_all modes gs) (take at order) others i h e)
-        (scan_end (writes_one modes gs) (passes_all modes gs) (take at order) others i h e)
+    searched_all h =
+        answer others (length tasks + 1) (scan_all (writes_one modes gs) (passes_all modes gs) tasks others i h e)
+        (scan_end (writes_one modes gs) (passes_all modes gs) tasks others i h e)
 
-    pub searched_all : at ≤ i → searched hold (i + 1) ≡ searched_ahead modes (take at order) gs
-    searched_all h = ends (omega (arith, length-take at order))
+    module _
+        (task : ℕ) (inside : i < length tasks) (t : task ≡ get_or tasks i 0) (hold : Hold)
+        (told : hold ≡ held_by (writes_one modes gs task) (passes_all modes gs task))
+      where
+        says : (x : Hold) → hold ≡ x → Says x (writes_one modes gs (get_or tasks i 0)) (passes_all modes gs (get_or tasks i 0))
+        says x q =
+            subst (λ k. Says x (writes_one modes gs k) (passes_all modes gs k)) t
+            (held_says x (writes_one modes gs task) (passes_all modes gs task) (sym q ∙ told))
 
-    pub searched_whole : length order ≡ 128 → 128 ≤ i → searched hold (i + 1) ≡ searched_ahead modes (take at order) gs
-    searched_whole len h = ends (omega (arith, length-take at order))
+        pub searched_writer : hold ≡ Writer → searched Writer (i + 1) ≡ searched_ahead modes tasks gs
+        unfolding SearchedTo hold_ahead
+        searched_writer q =
+            answer Writer (i + 1)
+            (scan_writer (writes_one modes gs) (passes_all modes gs) tasks others i 0 inside e (says Writer q))
+            (scan_stop (writes_one modes gs) (passes_all modes gs) tasks others i 0 inside e (says Writer q))
 
-  module _
-      (len : length order ≡ 128) (others : Bool) (i task : ℕ) (b : i < 128) (h : i < at) (t : task ≡ get_or order i 0) (e : SearchedTo others i)
-      (hold : Hold) (told : hold ≡ held_by (writes_one modes gs task) (passes_all modes gs task))
-    where
-      task_here : task ≡ get_or (take at order) i 0
-      task_here = t ∙ sym (get_or-take at order i 0 h)
+        module _ (after : Hold) where
+          pub searched_pass : hold ≡ Free → after ≡ others → SearchedTo after (i + 1)
+          unfolding SearchedTo
+          searched_pass q is =
+              let s = says Free q in
+              scan_pass (writes_one modes gs) (passes_all modes gs) tasks others i 0 inside e s.0 after is s.1
 
-      says : (x : Hold) → hold ≡ x → Says x (writes_one modes gs (get_or (take at order) i 0)) (passes_all modes gs (get_or (take at order) i 0))
-      says x q =
-          subst (λ k. Says x (writes_one modes gs k) (passes_all modes gs k)) task_here
-          (held_says x (writes_one modes gs task) (passes_all modes gs task) (sym q ∙ told))
+          pub searched_other : hold ≡ Others → after ≡ Others → SearchedTo after (i + 1)
+          unfolding SearchedTo
+          searched_other q is =
+              let s = says Others q in
+              scan_other (writes_one modes gs) (passes_all modes gs) tasks others i 0 inside e s.0 after is s.1
 
-      pub searched_writer : hold ≡ Writer → searched Writer (i + 1) ≡ searched_ahead modes (take at order) gs
-      unfolding SearchedTo hold_ahead
-      searched_writer q =
-          let inside : i < length (take at order) = omega (arith, length-take at order) in
-          answer Writer (i + 1)
-          (scan_writer (writes_one modes gs) (passes_all modes gs) (take at order) others i 0 inside e (says Writer q))
-          (scan_stop (writes_one modes gs) (passes_all modes gs) (take at order) others i 0 inside e (says Writer q))
-
-      pub searched_pass : hold ≡ Free → SearchedTo others (i + 1)
-      unfolding SearchedTo
-      searched_pass q =
-          let s = says Free q in
-          scan_pass (writes_one modes gs) (passes_all modes gs) (take at order) others i 0 (omega (arith, length-take at order)) e s.0 s.1
-
-      pub searched_other : hold ≡ Others → SearchedTo true (i + 1)
-      unfolding SearchedTo
-      searched_other q =
-          let s = says Others q in
-          scan_other (writes_one modes gs) (passes_all modes gs) (take at order) others i 0 (omega (arith, length-take at order)) e s.0 s.1
+-- the tasks up to a place of the order, or all
+pub up_to : (at bound : ℕ) (order : List ℕ) → length order ≡ 128 → bound ≡ min at 128 → take bound order ≡ take at order
+up_to at bound order all least = ap (λ n. take n order) (least ∙ ap (min at) (sym all)) ∙ take_min at order
 
 every_same : {A : Type 0} (p q : A → Bool) (l : List A) → ((a : A) → In a l → p a ≡ q a) → every p l ≡ every q l
 unfolding every

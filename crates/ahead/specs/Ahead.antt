@@ -1,24 +1,19 @@
 -- What the tasks ahead do to the accesses of a call, by the table of modes.
-use Rattle.std.specs.Prelude.{ℕ, suc, List, [], ◌∷◌, Bool, true, false, cond, get_or, take, eqb}
+use Rattle.std.specs.Prelude.{ℕ, suc, List, [], ◌∷◌, Bool, true, false, cond, map, get_or, eqb}
 use Rattle.semantics.specs.Access.{Access, every, any, compatible}
 use Rattle.semantics.specs.Search.{Found, found}
 use Rattle.ahead.specs.declared.Hold.{Hold}
 use Rattle.ahead.specs.declared.Hold.TheVariants.{Free, Writer, Others}
 use Rattle.ahead.specs.declared.Searched.{Searched}
-use Rattle.ahead.specs.declared.Wanted.{Wanted}
+use Rattle.ahead.specs.declared.Access as Declared
 use Rattle.arrays.specs.Rows.{row}
 
 abbrev pub access : ℕ → ℕ → Access
 access location mode = record { location = location; mode = mode }
 
--- each location with its mode
-unfoldable pub accesses : List ℕ → List ℕ → List Access
-accesses [] ms = []
-accesses (a ∷ ls) [] = []
-accesses (a ∷ ls) (m ∷ ms) = access a m ∷ accesses ls ms
-
-unfoldable pub accesses_of : Wanted → List Access
-accesses_of w = take w.count (accesses w.locations w.asked)
+-- the accesses in the model's words
+unfoldable pub accesses_of : List Declared.Access → List Access
+accesses_of = map (λ g. access g.location g.asked)
 
 -- task k has mode write at the location of one of these accesses
 unfoldable pub writes_one : List ℕ → List Access → ℕ → Bool

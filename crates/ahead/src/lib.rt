@@ -1,8 +1,14 @@
 // The search of the tasks ahead: what they do to the accesses of a call, and at how many it looked.
 #![tactic(auto)]
 
+mod search;
+mod wanted;
+
+pub use search::{passable, search_ahead};
+pub use wanted::{Wanted, wanted_at, wanted_of};
+
 // What the tasks ahead do to the accesses of a call.
-#[derive(Clone, Copy)]
+#[derive(Clone, Copy, Debug, PartialEq, Eq)]
 pub enum Hold {
     // They all may stand ahead.
     Free,
@@ -13,20 +19,15 @@ pub enum Hold {
 }
 
 // What a search of the tasks ahead found, and at how many tasks it looked: the place where it stopped, counted from 1.
-#[derive(Clone, Copy)]
+#[derive(Clone, Copy, Debug, PartialEq, Eq)]
 pub struct Searched {
     pub hold: Hold,
     pub looked: usize,
 }
 
-// The accesses of a call: the first `count` locations, and the mode that each is asked for in.
-#[derive(Clone, Copy)]
-pub struct Wanted {
-    pub count: usize,
-    pub locations: [u8; 64],
-    pub asked: [u8; 64],
+// A location, and the mode that it is asked for in.
+#[derive(Clone, Copy, Debug, PartialEq, Eq)]
+pub struct Access {
+    pub location: u8,
+    pub asked: u8,
 }
-
-mod search;
-
-pub use search::{passable, search_ahead, wanted_at, wanted_of};

@@ -1,21 +1,23 @@
 -- The order's edits in the model's words: in a distinct order a splice for a task happens at its place, a removal is such a
 -- splice, and the place found is the model's. Assumes nothing.
-use Prim.Native.Nat.{ℕ, zero, suc, ◌<◌}
+use Prim.Native.Nat.{ℕ, zero, suc, ◌≤◌, ◌<◌}
 use mathlib.Core.Path.{◌≡◌, refl, sym, ap, subst, ◌∙◌}
 use mathlib.Core.List.{List, [], ◌∷◌, ◌++◌}
-use mathlib.Core.Bool.{Bool, true, false, cond, ◌||◌}
+use mathlib.Core.Bool.{Bool, true, false, ◌||◌}
 use mathlib.Core.Logic.{inl, inr}
 use native.Mathlib.Omega.{arith}
 use lib.ListN.{length, take, drop, get_or}
 use lib.Dec.{eqb}
-use borrow.Author.Tests.{eqb-true}
+use borrow.Author.Tests.{eqb-true, eq-eqb}
 use Rattle.semantics.specs.Access.{ahead}
 use Rattle.semantics.specs.Call.{among, splice}
 use Rattle.semantics.specs.Sound.{In, Distinct}
 use Rattle.semantics.proofs.Order.{splice_same, splice_other, splice_absent}
-use Rattle.arrays.specs.declared.Place.{Place}
-use Rattle.arrays.specs.declared.Place.TheVariants.{At, Absent}
-use Rattle.arrays.specs.Places.{later, place_of, without}
+use Rattle.std.specs.Prelude.{Some, None}
+use Rattle.std.specs.List.{position_or_len}
+use Rattle.std.proofs.lemmas.List.Quantifiers.{position-Some}
+use Rattle.std.proofs.lemmas.Bool.Decides.{nat_tests}
+use Rattle.arrays.specs.Places.{place_of, without}
 
 getD_in : (xs : List ℕ) (i : ℕ) → i < length xs → In (get_or xs i 0) xs
 getD_in [] i h = let z : ⊥ = omega arith in absurd z
@@ -45,48 +47,35 @@ pub record Placed (n : ℕ) (xs : List ℕ) (i : ℕ) : Type 0 where
   pub before : take i xs ≡ ahead n xs
   pub listed : among n xs ≡ true
 
-pub placed : (n : ℕ) (xs : List ℕ) (i : ℕ) → place_of n xs ≡ At i → Placed n xs i
+-- the first n in xs: those before it are ahead of n, and n is among them
+first_at : (n : ℕ) (xs : List ℕ) (i : ℕ) → i < length xs → get_or xs i 0 ≡ n → ((k : ℕ) → k < i → eqb (get_or xs k 0) n ≡ false)
+    → (take i xs ≡ ahead n xs) × (among n xs ≡ true)
+unfolding ahead among
+first_at n [] i h e none = absurd (omega arith)
+first_at n (k ∷ ks) zero h e none = let t = eq-eqb k n e in (rw t refl, rw t refl)
+first_at n (k ∷ ks) (suc i) h e none =
+    let f = none 0 (omega arith) in
+    let r = first_at n ks i (omega arith) e (λ j b. none (suc j) (omega arith)) in
+    (rw f (ap (λ l. k ∷ l) r.0), rw f r.1)
+
+pub placed : (n : ℕ) (xs : List ℕ) (i : ℕ) → place_of n xs ≡ Some i → Placed n xs i
 unfolding place_of
-placed n [] i e = let z : ◌≡◌ {A = ℕ} 0 1 = cc in let bad : ⊥ = omega arith in absurd bad
-placed n (k ∷ ks) i e = by_head (placed n ks) (eqb k n) refl e
+placed n xs i e =
+    let p = position-Some (λ k. eqb k n) xs i 0 e in
+    let there = eqb-true (get_or xs i 0) n p.1 in
+    let first = first_at n xs i p.0 there p.2 in
+    record { within = p.0; there = there; before = first.0; listed = first.1 }
+
+not_among : (n : ℕ) (xs : List ℕ) → length xs ≤ position_or_len (λ k. eqb k n) xs → among n xs ≡ false
+unfolding among
+not_among n [] h = refl
+not_among n (k ∷ ks) h = by_head (not_among n ks) (eqb k n) refl
   where
-    by_rest : ((j : ℕ) → place_of n ks ≡ At j → Placed n ks j) → eqb k n ≡ false → (p : Place) → place_of n ks ≡ p
-        → later p ≡ At i → Placed n (k ∷ ks) i
-    by_rest ih f (At j) q e =
-        let s : suc j ≡ i = cc in
-        let r = ih j q in
-        subst (λ m. Placed n (k ∷ ks) m) s
-        (record {
-          within = omega (arith, r.within);
-          there = r.there;
-          before = (unfold ahead in rw f (ap (λ l. k ∷ l) r.before));
-          listed = (unfold among in rw f r.listed);
-        })
-    by_rest ih f Absent q e = let z : ◌≡◌ {A = ℕ} 0 1 = cc in let bad : ⊥ = omega arith in absurd bad
+    by_head : (length ks ≤ position_or_len (λ i. eqb i n) ks → among n ks ≡ false) → (t : Bool) → eqb k n ≡ t
+        → (eqb k n || among n ks) ≡ false
+    by_head ih true t = absurd (omega (arith, rw t at h))
+    by_head ih false t = rw t (ih (omega (arith, rw t at h)))
 
-    by_head : ((j : ℕ) → place_of n ks ≡ At j → Placed n ks j) → (t : Bool) → eqb k n ≡ t
-        → cond t (At 0) (later (place_of n ks)) ≡ At i → Placed n (k ∷ ks) i
-    by_head ih true t e =
-        let s : 0 ≡ i = cc in
-        subst (λ m. Placed n (k ∷ ks) m) s
-        (record {
-          within = omega arith;
-          there = eqb-true k n t;
-          before = (unfold ahead in rw t refl);
-          listed = (unfold among in rw t refl);
-        })
-    by_head ih false t e = by_rest ih t (place_of n ks) refl e
-
-pub unplaced : (n : ℕ) (xs : List ℕ) → place_of n xs ≡ Absent → among n xs ≡ false
-unfolding place_of among
-unplaced n [] e = refl
-unplaced n (k ∷ ks) e = by_head (unplaced n ks) (eqb k n) e
-  where
-    by_rest : (place_of n ks ≡ Absent → among n ks ≡ false) → (p : Place) → place_of n ks ≡ p → later p ≡ Absent → among n ks ≡ false
-    by_rest ih (At j) q e = let z : ◌≡◌ {A = ℕ} 0 1 = cc in let bad : ⊥ = omega arith in absurd bad
-    by_rest ih Absent q e = ih q
-
-    by_head : (place_of n ks ≡ Absent → among n ks ≡ false) → (t : Bool) → cond t (At 0) (later (place_of n ks)) ≡ Absent
-        → (t || among n ks) ≡ false
-    by_head ih true e = let z : ◌≡◌ {A = ℕ} 0 1 = cc in let bad : ⊥ = omega arith in absurd bad
-    by_head ih false e = by_rest ih (place_of n ks) refl e
+pub unplaced : (n : ℕ) (xs : List ℕ) → place_of n xs ≡ None → among n xs ≡ false
+unfolding place_of
+unplaced n xs e = not_among n xs (grind (arith, nat_tests))

@@ -1,5 +1,5 @@
 -- Rows of the table of modes: 64 places for each task.
-use Rattle.std.specs.Prelude.{ℕ, zero, suc, ◌+◌, ◌*◌, List, ◌++◌, take, drop}
+use Rattle.std.specs.Prelude.{ℕ, ◌+◌, ◌*◌, List, ◌++◌, take, drop}
 
 -- the row of a task
 unfoldable pub row : ℕ → List ℕ → List ℕ

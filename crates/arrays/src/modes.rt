@@ -6,16 +6,11 @@ ghost use Rattle.arrays.specs.Rows.{row, with};
 pub fn row_of(modes: &[u8; 8192], task: usize) -> [u8; 64]
     ensures { length modes.now ≡ 8192 → task < 128 → result ≡ row task modes.now }
 {
-    let mut out = [0u8; 64];
+    let mut out = [0; 64];
     if task >= 128 {
         return out;
     }
-    let base = 64 * task;
-    let mut j = 0;
-    while j < 64 {
-        out[j] = modes[base + j];
-        j += 1;
-    }
+    out.copy_from_slice(&modes[64 * task..64 * task + 64]);
     out
 }
 
@@ -23,14 +18,8 @@ pub fn row_of(modes: &[u8; 8192], task: usize) -> [u8; 64]
 pub fn put_row(modes: &mut [u8; 8192], task: usize, row: [u8; 64])
     ensures { (length modes.old ≡ 8192 → task < 128 → modes.new ≡ with task row modes.old) × (length modes.new ≡ length modes.old) }
 {
-    if 127 < task {
-        return;
-    }
-    let base = 64 * task;
-    let mut j = 0;
-    while j < 64 {
-        modes[base + j] = row[j];
-        j += 1;
+    if task < 128 {
+        modes[64 * task..64 * task + 64].copy_from_slice(&row);
     }
 }
 
@@ -38,33 +27,26 @@ pub fn put_row(modes: &mut [u8; 8192], task: usize, row: [u8; 64])
 pub fn mode_at(modes: &[u8; 8192], task: usize, location: usize) -> u8
     ensures { length modes.now ≡ 8192 → result ≡ get_or (row task modes.now) location 0 }
 {
-    if 128 <= task {
-        return 0;
+    if task < 128 && location < 64 {
+        modes[64 * task + location]
+    } else {
+        0
     }
-    if 64 <= location {
-        return 0;
-    }
-    modes[64 * task + location]
 }
 
 // The mode of a row at `location`; 0 where there is none.
 pub fn mode_in(row: [u8; 64], location: usize) -> u8
     ensures { result ≡ get_or row location 0 }
 {
-    if location >= 64 {
-        return 0;
-    }
-    row[location]
+    row.get(location).copied().unwrap_or(0)
 }
 
 // The row with another mode at `location`; the same row where there is no such location.
-pub fn with_mode(row: [u8; 64], location: usize, mode: u8) -> [u8; 64]
+pub fn with_mode(mut row: [u8; 64], location: usize, mode: u8) -> [u8; 64]
     ensures { result ≡ set row location mode }
 {
-    if 63 < location {
-        return row;
+    if location < 64 {
+        row[location] = mode;
     }
-    let mut out = row;
-    out[location] = mode;
-    out
+    row
 }

@@ -1,14 +1,15 @@
 -- Sums, lists of values, quotients and remainders. Assumes nothing.
 use Prim.Native.Nat.{ℕ, zero, suc, ◌+◌, ◌*◌, ◌/◌, ◌%◌, ◌≤◌, ◌<◌}
-use mathlib.Core.Path.{◌≡◌, refl, ap, ◌∙◌}
+use mathlib.Core.Path.{◌≡◌, refl, sym, ap, ◌∙◌}
 use mathlib.Core.List.{List, [], ◌∷◌, ◌++◌, map}
 use mathlib.Core.Bool.{Bool, cond}
 use native.Mathlib.Omega.{arith}
 use native.Mathlib.Decide.{ℕ_discrete}
-use native.Mathlib.Numerals.{add-one}
 use native.Mathlib.Nat.{mul-add, mul-zero, mul_comm, div-zero, div-add-mod, le_of_mul-le-mul_left}
-use lib.ListN.{length, take, get_or, length-map}
-use lib.Seq.{take-suc, ext_get_or}
+use lib.ListN.{length, get_or, length-map}
+use lib.Seq.{ext_get_or}
+use Rattle.std.specs.List.{sum, sum_by}
+use Rattle.std.proofs.lemmas.List.Sums.{sum_by-cons, sum-map}
 use Rattle.bill_shares.specs.Shares.{whole, floors, remainders, count_below, share_at, listed, shares}
 use Rattle.bill_shares.proofs.Counting.{count_next, count_empty}
 
@@ -17,17 +18,20 @@ unfolding whole
 whole_append [] ys = omega arith
 whole_append (x ∷ xs) ys = omega (arith, whole_append xs ys)
 
+-- the library's word for it
+pub whole_is_sum : (l : List ℕ) → whole l ≡ sum l
+unfolding whole
+whole_is_sum [] = refl
+whole_is_sum (x ∷ l) = ap (λ n. x + n) (whole_is_sum l) ∙ sym (sum_by-cons (λ n. n) x l)
+
+pub whole_of_map : {A : Type 0} (f : A → ℕ) (l : List A) → whole (map f l) ≡ sum_by f l
+whole_of_map f l = whole_is_sum (map f l) ∙ sum-map f l
+
 pub at_most_whole : (l : List ℕ) (i : ℕ) → get_or l i 0 ≤ whole l
 unfolding whole
 at_most_whole [] i = omega arith
 at_most_whole (x ∷ l) zero = omega arith
 at_most_whole (x ∷ l) (suc i) = omega (arith, at_most_whole l i)
-
--- one more value
-pub whole_more : (l : List ℕ) (i : ℕ) → i < length l → whole (take (i + 1) l) ≡ whole (take i l) + get_or l i 0
-whole_more l i h =
-    ap (λ k. whole (take k l)) (add-one i) ∙ ap whole (take-suc l i 0 h) ∙ whole_append (take i l) (get_or l i 0 ∷ [])
-    ∙ unfold whole in omega arith
 
 -- the n values of f from one number on
 pub length_listed : (f : ℕ → ℕ) (from n : ℕ) → length (listed f from n) ≡ n
@@ -84,11 +88,6 @@ whole_pennies f p (suc n) =
       count_next p n,
       whole_pennies f p n,
     )
-
-pub getD_in_map : (g : ℕ → ℕ) (l : List ℕ) (i : ℕ) → i < length l → get_or (map g l) i 0 ≡ g (get_or l i 0)
-getD_in_map g [] i h = let z : ⊥ = omega arith in absurd z
-getD_in_map g (x ∷ l) zero h = refl
-getD_in_map g (x ∷ l) (suc i) h = getD_in_map g l i (omega arith)
 
 -- quotients and remainders of all weights by one divisor
 pub divided :

@@ -11,23 +11,11 @@ use native.Mathlib.Nat.{mul-add, mul-suc, mul-zero, mul_comm, mod-lt, div-add-mo
 use lib.ListN.{length, get_or}
 use lib.Dec.{ltb, eqb}
 use borrow.Author.Tests.{ltb-true, ltb-false, eq-eqb, ne_eqb}
+use Rattle.std.proofs.lemmas.List.{get_or-map}
 use Rattle.bill_shares.specs.Shares.{whole, floors, remainders, remaining, comes_before, count_below, rank_of, share_at, listed, shares}
 use Rattle.bill_shares.specs.Statement.{Shared, SharedLaw}
 use Rattle.bill_shares.proofs.Counting.{count_next, count_empty, count_mono, count_most}
-use Rattle.bill_shares.proofs.ShareLaws.{
-  at_most_whole,
-  listed_at,
-  listed_items,
-  whole_next,
-  whole_empty,
-  whole_pennies,
-  getD_in_map,
-  divided,
-  floors_most,
-  floors_count,
-  remainders_count,
-  shares_count,
-}
+use Rattle.bill_shares.proofs.ShareLaws.{listed_at, listed_items, whole_next, whole_empty, whole_pennies, divided, floors_most, floors_count, remainders_count, shares_count}
 use Rattle.bill_shares.proofs.RankLaws.{Before, true_before, one_before, rank_less, ranks_below}
 
 abbrev is_some : ℕ → Bool
@@ -73,14 +61,14 @@ module _ (bill : ℕ) (ws : List ℕ) (some : 0 < whole ws) where
   unfolding floors remainders
   exact i h =
       let n = bill * get_or ws i 0 in
-      let a = getD_in_map (λ w. bill * w / whole ws) ws i h in
-      let b = getD_in_map (λ w. bill * w % whole ws) ws i h in
+      let a = get_or-map (λ w. bill * w / whole ws) ws i 0 0 h in
+      let b = get_or-map (λ w. bill * w % whole ws) ws i 0 0 h in
       let c : whole ws * get_or (map (λ w. bill * w / whole ws) ws) i 0 ≡ whole ws * (n / whole ws) = ap (λ x. whole ws * x) a in
       omega (arith, b, c, div-add-mod n (whole ws))
 
   small : (i : ℕ) → i < length ws → get_or rs i 0 < W
   unfolding remainders
-  small i h = subst (λ x. x < whole ws) (sym (getD_in_map (λ w. bill * w % whole ws) ws i h)) (mod-lt (bill * get_or ws i 0) some)
+  small i h = subst (λ x. x < whole ws) (sym (get_or-map (λ w. bill * w % whole ws) ws i 0 0 h)) (mod-lt (bill * get_or ws i 0) some)
 
   sums : W * whole fs + whole rs ≡ bill * W
   unfolding floors remainders
@@ -227,7 +215,3 @@ module _ (bill : ℕ) (ws : List ℕ) (some : 0 < whole ws) where
 
 pub shared : SharedLaw
 shared = all_holds
-
--- no share is above the bill
-pub shares_small : (bill : ℕ) (ws : List ℕ) → 0 < whole ws → (i : ℕ) → get_or (shares bill ws) i 0 ≤ bill
-shares_small bill ws some i = omega (arith, at_most_whole (shares bill ws) i, (shared bill ws some).totals)

@@ -2,155 +2,112 @@
 // first among equals. Numbers alone: it knows of no run.
 #![tactic(auto)]
 
-ghost use Rattle.std.specs.Prelude.{◌+◌, ◌-◌, ◌*◌, ◌/◌, ◌%◌, ◌^◌, ◌≤◌, ◌<◌, min, ◌≡◌, ◌++◌, map, cond, ◌&&◌, ◌||◌, ltb, eqb, length, take, get_or, replicate};
+ghost use Rattle.std.specs.Prelude.{ℕ, ◌+◌, ◌-◌, ◌*◌, ◌/◌, ◌%◌, ◌^◌, ◌≤◌, ◌<◌, ◌≡◌, ◌&&◌, ◌||◌, cond, ltb, eqb};
+ghost use Rattle.std.specs.Prelude.{◌++◌, length, take, get_or, map, replicate, count_by};
+ghost use Rattle.std.specs.List.{enumerate_from};
 ghost use Rattle.bill_shares.specs.Shares.{whole, rank_of, listed, shares};
 
 // As many weights as can be shared at once.
+// Kept: an array and a count beside it are what the two public functions take. A slice may hold more numbers than 64 bits can sum,
+// and at most PLACES of them would ask more of callers.
 pub const PLACES: usize = 128;
 
-fn wide(x: u32) -> u64
-    ensures { (result ≡ x) × (result < 2 ^ 32) }
-{
-    x as u64
-}
-
-// A count above PLACES counts as PLACES.
-fn clipped(count: usize) -> usize
-    ensures { result ≡ min count 128 }
-{
-    if PLACES < count { PLACES } else { count }
+// What one weight comes to: its share, rounded down, and what the rounding leaves of it, in parts of the whole.
+#[derive(Clone, Copy)]
+struct Part {
+    floor: u32,
+    remainder: u64,
 }
 
 // The first `count` values together.
+#[tactic(auto, using(crate::proofs::CodeLaws::take_clipped))]
 pub fn whole_of(values: [u32; PLACES], count: usize) -> u64
     ensures { result ≡ whole (take count values) }
 {
-    let places = clipped(count);
-    let mut total: u64 = 0;
-    let mut place = 0;
-    while place < places {
-        total += wide(values[place]);
-        place += 1;
-    }
-    total
+    total(&values[..count.min(PLACES)])
 }
 
-// Pence times weight: 64 bits hold it.
-fn product(bill: u32, weight: u32) -> u64
-    ensures { result ≡ bill * weight }
+#[tactic(auto, using(crate::proofs::ShareLaws::whole_is_sum))]
+fn total(values: &[u32]) -> u64
+    requires { length values.now ≤ 128 }
+    ensures { result ≡ whole values.now }
 {
-    let pence = wide(bill);
-    let by = wide(weight);
-    pence * by
+    values.iter().map(|value| u64::from(*value)).sum()
 }
 
-// The share of one weight, rounded down; 0 where the whole is 0.
-fn floor_of(bill: u32, weight: u32, all: u64) -> u32
+// A whole of 0 divides nothing: there each weight is 0, and so are its share and its remainder.
+fn part_of(bill: u32, weight: u32, all: u64) -> Part
     requires { weight ≤ all }
-    ensures { result ≡ bill * weight / all }
+    ensures floor { result.floor ≡ bill * weight / all }
+    ensures remainder { result.remainder ≡ bill * weight % all }
 {
-    let parts = product(bill, weight);
-    if all == 0 {
-        return 0;
+    let product = u64::from(bill) * u64::from(weight);
+    Part {
+        floor: product.checked_div(all).unwrap_or(0) as u32,
+        remainder: product.checked_rem(all).unwrap_or(0),
     }
-    (parts / all) as u32
 }
 
-// What the rounding leaves of it; the product itself where the whole is 0.
-fn remainder_of(bill: u32, weight: u32, all: u64) -> u64
-    ensures { result ≡ bill * weight % all }
+#[tactic(auto, using(crate::proofs::ShareLaws::at_most_whole))]
+fn parts_of(bill: u32, weights: &[u32], all: u64) -> [Part; PLACES]
+    requires few { length weights.now ≤ 128 }
+    requires whole { all ≡ whole weights.now }
+    ensures len { length result ≡ 128 }
+    ensures floors { map (λ p. p.floor) (take (length weights.now) result) ≡ map (λ w. bill * w / all) weights.now }
+    ensures remainders { map (λ p. p.remainder) (take (length weights.now) result) ≡ map (λ w. bill * w % all) weights.now }
 {
-    let parts = product(bill, weight);
-    if all == 0 {
-        return parts;
+    let mut parts = [Part {
+        floor: 0,
+        remainder: 0,
+    }; PLACES];
+    for (i, weight) in weights.iter().enumerate() {
+        parts[i] = part_of(bill, *weight, all);
     }
-    parts % all
+    parts
 }
 
-fn floors_of(bill: u32, weights: [u32; PLACES], count: usize, all: u64) -> [u32; PLACES]
-    requires { (count ≤ 128) × (all ≡ whole (take count weights)) }
-    ensures { (length result ≡ 128) × (take count result ≡ map (λ w. bill * w / all) (take count weights)) }
+#[tactic(auto, using(crate::proofs::ShareLaws::whole_of_map))]
+fn floors_of(parts: &[Part]) -> u64
+    requires { length parts.now ≤ 128 }
+    ensures { result ≡ whole (map (λ p. p.floor) parts.now) }
 {
-    let mut floors = [0u32; PLACES];
-    let mut i = 0;
-    while i < count {
-        floors[i] = floor_of(bill, weights[i], all);
-        i += 1;
-    }
-    floors
+    parts.iter().map(|part| u64::from(part.floor)).sum()
 }
 
-fn remainders_of(bill: u32, weights: [u32; PLACES], count: usize, all: u64) -> [u64; PLACES]
-    requires { count ≤ 128 }
-    ensures { (length result ≡ 128) × (take count result ≡ map (λ w. bill * w % all) (take count weights)) }
+// How many parts have a larger remainder than `mine`, or an equal one at a place below `i`.
+fn count_before(parts: &[Part], mine: u64, i: usize) -> usize
+    ensures { let comes_before = λ (q : ℕ × Part). ltb mine q.1.remainder || (eqb mine q.1.remainder && ltb q.0 i) in
+        result ≡ count_by comes_before (enumerate_from 0 parts.now) }
 {
-    let mut remainders = [0u64; PLACES];
-    let mut i = 0;
-    while i < count {
-        remainders[i] = remainder_of(bill, weights[i], all);
-        i += 1;
-    }
-    remainders
+    parts
+        .iter()
+        .enumerate()
+        .filter(|(j, other)| mine < other.remainder || (mine == other.remainder && *j < i))
+        .count()
 }
 
-// 1 where place j, with the remainder `other`, comes before place i, with the remainder `mine`; else 0.
-fn one_if_before(mine: u64, i: usize, other: u64, j: usize) -> usize
-    ensures { result ≡ cond (ltb mine other || (eqb mine other && ltb j i)) 1 0 }
+// How many parts come before part `i`.
+#[tactic(auto, using(crate::proofs::CodeLaws::rank_counted))]
+fn rank_in(parts: &[Part], i: usize) -> usize
+    requires { i < length parts.now }
+    ensures { result ≡ rank_of (map (λ p. p.remainder) parts.now) i }
 {
-    if mine < other {
-        return 1;
-    }
-    if other < mine {
-        return 0;
-    }
-    if j < i {
-        return 1;
-    }
-    0
+    count_before(parts, parts[i].remainder, i)
 }
 
-// How many places come before place `i`.
-fn rank_in(remainders: [u64; PLACES], count: usize, i: usize) -> usize
-    requires { (count ≤ 128) × (i < count) }
-    ensures { result ≡ rank_of (take count remainders) i }
+// Each part's share, with zeros behind: a penny more where fewer parts than the remaining pence come before.
+fn handed_out(parts: &[Part], pence: u64) -> [u32; PLACES]
+    requires few { length parts.now ≤ 128 }
+    requires fits { whole (map (λ p. p.floor) parts.now) + pence < 2 ^ 32 }
+    ensures { let floors = map (λ p. p.floor) parts.now in
+        let remainders = map (λ p. p.remainder) parts.now in
+        let share_at = λ (i : ℕ). get_or floors i 0 + cond (ltb (rank_of remainders i) pence) 1 0 in
+        result ≡ listed share_at 0 (length parts.now) ++ replicate (128 - length parts.now) 0 }
 {
-    let mine = remainders[i];
-    let mut rank = 0;
-    let mut j = 0;
-    while j < count {
-        rank += one_if_before(mine, i, remainders[j], j);
-        j += 1;
-    }
-    rank
-}
-
-// A penny more where fewer places than the remaining pence come before.
-fn with_penny(floor: u32, rank: usize, pence: u64) -> u32
-    requires { floor + pence < 2 ^ 32 }
-    ensures { result ≡ floor + cond (ltb rank pence) 1 0 }
-{
-    if (rank as u64) < pence {
-        return floor + 1;
-    }
-    floor
-}
-
-// Each place's share of the first `count`, with zeros behind.
-fn handed_out(
-    floors: [u32; PLACES],
-    remainders: [u64; PLACES],
-    count: usize,
-    pence: u64,
-) -> [u32; PLACES]
-    requires { (count ≤ 128) × (whole (take count floors) + pence < 2 ^ 32) }
-    ensures { result ≡ listed (λ i. get_or (take count floors) i 0 + cond (ltb (rank_of (take count remainders) i) pence) 1 0) 0 count ++ replicate (128 - count) 0 }
-{
-    let mut shares = [0u32; PLACES];
-    let mut i = 0;
-    while i < count {
-        let rank = rank_in(remainders, count, i);
-        shares[i] = with_penny(floors[i], rank, pence);
-        i += 1;
+    let mut shares = [0; PLACES];
+    for (i, part) in parts.iter().enumerate() {
+        let penny = (rank_in(parts, i) as u64) < pence;
+        shares[i] = part.floor + u32::from(penny);
     }
     shares
 }
@@ -160,11 +117,10 @@ fn handed_out(
 pub fn shares_of(bill: u32, weights: [u32; PLACES], count: usize) -> [u32; PLACES]
     ensures { result ≡ shares bill (take count weights) ++ replicate (128 - count) 0 }
 {
-    let places = clipped(count);
-    let all = whole_of(weights, places);
-    let floors = floors_of(bill, weights, places, all);
-    let remainders = remainders_of(bill, weights, places, all);
-    let rounded = whole_of(floors, places);
-    let pence = wide(bill) - rounded;
-    handed_out(floors, remainders, places, pence)
+    let weights = &weights[..count.min(PLACES)];
+    let places = weights.len();
+    let parts = parts_of(bill, weights, total(weights));
+    let parts = &parts[..places];
+    let pence = u64::from(bill) - floors_of(parts);
+    handed_out(parts, pence)
 }

@@ -1,33 +1,21 @@
 -- The answers to a bill, in their order. Assumes nothing.
-use Rattle.std.proofs.Common.{◌≡◌, ℕ, ◌+◌, ◌-◌, ◌<◌, ◌≤◌, true, false, eqb, List, [], ◌∷◌, ◌++◌, length, get_or, take, drop, set, replicate, sym, refl, ap, ◌∙◌, zero-add, add-one, arith, length-take-le, take-suc, take_at, drop_at, eq-eqb, ne_eqb, le-leb}
-use lib.Seq.{sets, sets-eq}
+use Rattle.std.proofs.Common.{◌≡◌, ℕ, ◌-◌, ◌<◌, ◌≤◌, true, false, eqb, List, ◌++◌, length, take, drop, replicate, sym, refl, ap, ◌∙◌, arith, length-take-le, take_at, drop_at, eq-eqb, ne_eqb, le-leb}
 use borrow.Author.Tests.{lt-leb}
 use Rattle.tasklist.specs.Answers as Listed
-use Rattle.tasklist.proofs.WriterLaws.{sets_append}
 use Rattle.runtime.specs.declared.Run.{Run}
 use Rattle.runtime.specs.View.{model, context_of, SoundRun}
 use Rattle.runtime.specs.Asked.{queue_answer, queue_out}
 use Rattle.bill_shares.specs.Shares.{shares}
 use Rattle.bill_shares.proofs.ShareLaws.{shares_count}
 use Rattle.model_bill.specs.Bill.{wards, ward_weights, shares_asked}
-use Rattle.bill_wards.specs.declared.Billed.TheVariants as Billing
+use Rattle.std.specs.Prelude.{Ok, Err}
+use Rattle.bill_wards.specs.declared.BillRefusal.TheVariants as Billing
 use Rattle.bill_wards.specs.declared.Wards.{Wards}
-use Rattle.bill_wards.specs.Answers.{refusal_of, billed, named}
 use Rattle.bill_wards.specs.Promises.{BilledAs, WardsOf}
 
--- one value more at the front
-pub put_more :
-    (vs out : List ℕ) (i : ℕ) → i < length vs → set (sets out 0 (take i vs)) i (get_or vs i 0) ≡ sets out 0 (take (i + 1) vs)
-put_more vs out i h =
-    let x = get_or vs i 0 in
-    let at : 0 + length (take i vs) ≡ i = omega (arith, length-take-le i vs (omega arith)) in
-    ap (λ k. set (sets out 0 (take i vs)) k x) (sym at)
-    ∙ sym (sets_append (take i vs) out (x ∷ []) 0)
-    ∙ ap (sets out 0) (sym (take-suc vs i 0 h) ∙ ap (λ k. take k vs) (sym (add-one i)))
-
 module _ (run : Run) (bill : ℕ) (out : List ℕ) (left : ℕ) (counted : left ≡ length (model run).order) where
-  pub billed_left : 0 < left → BilledAs run bill out out Billing.Left
-  unfolding refusal_of billed named queue_answer queue_out shares_asked
+  pub billed_left : 0 < left → BilledAs run bill out out (Err Billing.Left)
+  unfolding queue_answer queue_out shares_asked
   billed_left h =
       let some = ne_eqb (length (model run).order) 0 (λ z. omega (arith, counted, z)) in
       record { asked = λ s. record { answer = rw some refl; places = rw some refl }; others = refl; within = omega arith }
@@ -40,8 +28,8 @@ module _ (run : Run) (bill : ℕ) (out : List ℕ) (left : ℕ) (counted : left 
     how_many s =
         ap length (sym (f.numbers s)) ∙ length-take-le w.count w.numbers (omega (arith, f.few, f.numbered))
 
-    pub billed_none : w.count ≡ 0 → BilledAs run bill out out Billing.NoWard
-    unfolding refusal_of billed named queue_answer queue_out shares_asked
+    pub billed_none : w.count ≡ 0 → BilledAs run bill out out (Err Billing.NoWard)
+    unfolding queue_answer queue_out shares_asked
     billed_none z =
         record {
           asked = λ s.
@@ -55,8 +43,8 @@ module _ (run : Run) (bill : ℕ) (out : List ℕ) (left : ℕ) (counted : left 
       any : SoundRun run → eqb (length (wards (context_of run) (model run))) 0 ≡ false
       any s = ne_eqb (length (wards (context_of run) (model run))) 0 (λ z. some (sym (how_many s) ∙ z))
 
-      pub billed_short : length out < w.count → BilledAs run bill out out Billing.Short
-      unfolding refusal_of billed named queue_answer queue_out shares_asked
+      pub billed_short : length out < w.count → BilledAs run bill out out (Err Billing.Short)
+      unfolding queue_answer queue_out shares_asked
       billed_short h =
           record {
             asked = λ s.
@@ -69,7 +57,7 @@ module _ (run : Run) (bill : ℕ) (out : List ℕ) (left : ℕ) (counted : left 
       module _
           (given after : List ℕ) (room : w.count ≤ length out)
           (shared : given ≡ shares bill (take w.count w.weights) ++ replicate (128 - w.count) 0)
-          (put : after ≡ sets out 0 (take w.count given))
+          (put : after ≡ take w.count given ++ drop w.count out)
         where
           abbrev front : List ℕ
           front = shares bill (take w.count w.weights)
@@ -82,13 +70,12 @@ module _ (run : Run) (bill : ℕ) (out : List ℕ) (left : ℕ) (counted : left 
           written : after ≡ front ++ drop (length front) out
           written =
               put
-              ∙ ap (λ l. sets out 0 (take w.count l)) shared
-              ∙ ap (sets out 0) (take_at front (replicate (128 - w.count) 0) w.count long)
-              ∙ sets-eq front out 0 (omega (arith, zero-add (length front), long))
-              ∙ ap (λ k. front ++ drop k out) (zero-add (length front))
+              ∙ ap (λ l. take w.count l ++ drop w.count out) shared
+              ∙ ap (λ l. l ++ drop w.count out) (take_at front (replicate (128 - w.count) 0) w.count long)
+              ∙ ap (λ k. front ++ drop k out) (sym long)
 
-          pub billed_shared : BilledAs run bill out after (Billing.Wards w.count)
-          unfolding refusal_of billed named queue_answer queue_out shares_asked
+          pub billed_shared : BilledAs run bill out after (Ok w.count)
+          unfolding queue_answer queue_out shares_asked
           billed_shared =
               record {
                 asked = λ s.

@@ -4,8 +4,8 @@ use mathlib.Core.List.{map-append}
 use mathlib.Core.Bool.{false≢true}
 use Rattle.tasklist.specs.TaskList.{total, task_count}
 use Rattle.tasklist.specs.Tables.{capped}
-use Rattle.semantics.specs.declared.Answer.{Answer}
-use Rattle.semantics.specs.declared.Answer.TheVariants as Answers
+use Rattle.std.specs.Prelude.{Result, Ok, Err, IsOk}
+use Rattle.semantics.specs.declared.CallRefusal.{CallRefusal}
 use Rattle.semantics.specs.declared.Record.{Record}
 use Rattle.semantics.specs.Run.{task_of}
 use Rattle.semantics.specs.Answers.{task_from}
@@ -16,7 +16,7 @@ use Rattle.plans.proofs.ViewLaws.{tasks_length}
 use Rattle.runtime.specs.declared.Run.{Run}
 use Rattle.runtime.specs.declared.Recorded.{Recorded}
 use Rattle.runtime.specs.View.{model, context_of, SoundRun}
-use Rattle.runtime.specs.Asked.{unless_refused, recorded}
+use Rattle.runtime.specs.Asked.{recorded}
 use Rattle.model_bill.specs.Bill.{wards_from, wards, ward_weight, ward_weights}
 use Rattle.model_bill.proofs.Given.{is_given, given_or}
 use Rattle.model_bill.proofs.Walk.{walk_inside, walk_blank, walk_ward}
@@ -24,19 +24,23 @@ use Rattle.bill_wards.specs.declared.Walk.{Walk}
 use Rattle.bill_wards.specs.Promises.{RecordOf, Room, with_later, Weighed, Turned, WardsOf}
 use Rattle.bill_wards.proofs.BlockLaws.{wards_capped, ward_weight_is}
 
--- what is told, where it isn't refused
-unless_given : {A : Type 0} (a : Answer) (x b : A) → unless_refused a x ≡ gives b → x ≡ b
-unless_given Answers.Accepted x b e = ap (given_or x) e
-unless_given (Answers.Refused k) x b e = absurd (false≢true (ap is_given e))
+-- a task below 128 is told of
+module _ (run : Run) (n : ℕ) (below : n < 128) where
+  given : record_asked (model run) n ≡ gives (task_of (model run) n)
+  unfolding record_asked
+  given = rw (lt-ltb n 128 below) refl
 
-pub record_read :
-    (run : Run) (n : ℕ) (r : Recorded) → n < 128 → recorded r ≡ record_asked (model run) n → RecordOf run n r.task
-unfolding recorded record_asked
-record_read run n r below e =
-    let asked : unless_refused r.answer (task_from r.task r.modes) ≡ gives (task_of (model run) n) =
-    e ∙ rw (lt-ltb n 128 below) refl in
-    let same = unless_given r.answer (task_from r.task r.modes) (task_of (model run) n) asked in
-    record { state = ap (λ t. t.state) same; body = ap (λ t. t.body) same; weight = ap (λ t. t.weight) same }
+  pub record_told : (r : Result Recorded CallRefusal) → recorded r ≡ record_asked (model run) n → IsOk r
+  unfolding recorded
+  record_told (Ok told) e = refl
+  record_told (Err k) e = absurd (false≢true (ap is_given (e ∙ given)))
+
+  pub record_read : (told : Recorded) (r : Result Recorded CallRefusal) → r ≡ Ok told → recorded r ≡ record_asked (model run) n → RecordOf run n told.task
+  unfolding recorded
+  record_read told r is e =
+      let asked : gives (task_from told.task told.modes) ≡ gives (task_of (model run) n) = sym (ap recorded is) ∙ e ∙ given in
+      let same = ap (given_or (task_from told.task told.modes)) asked in
+      record { state = ap (λ t. t.state) same; body = ap (λ t. t.body) same; weight = ap (λ t. t.weight) same }
 
 pub tasks_whole : (run : Run) → length run.records ≡ 128 → length (model run).tasks ≡ 128
 unfolding parts_model

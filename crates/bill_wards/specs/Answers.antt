@@ -1,26 +1,26 @@
 -- What sharing a bill answers: document 02, request 114.
-use Rattle.std.specs.Prelude.{ℕ}
+use Rattle.std.specs.Prelude.{ℕ, Result, Ok, Err}
 use Rattle.tasklist.specs.Answers as Listed
-use Rattle.bill_wards.specs.declared.Billed.{Billed}
-use Rattle.bill_wards.specs.declared.Billed.TheVariants as Billing
+use Rattle.bill_wards.specs.declared.BillRefusal.{BillRefusal}
+use Rattle.bill_wards.specs.declared.BillRefusal.TheVariants as Billing
 
--- "28 jobs left in the run; 29 no ward; then 17 for a short slice"; 0 where the bill is shared
-unfoldable pub refusal_of : Billed → ℕ
-refusal_of (Billing.Wards n) = 0
-refusal_of Billing.Left = 28
-refusal_of Billing.NoWard = 29
-refusal_of Billing.Short = 17
+-- "28 jobs left in the run; 29 no ward; then 17 for a short slice"
+abbrev pub bill_refusal_number : BillRefusal → ℕ
+bill_refusal_number Billing.Left = 28
+bill_refusal_number Billing.NoWard = 29
+bill_refusal_number Billing.Short = 17
+
+-- 0 where the bill is shared
+abbrev pub refusal_of : Result ℕ BillRefusal → ℕ
+refusal_of (Ok n) = 0
+refusal_of (Err k) = bill_refusal_number k
 
 -- "Success gives the number of wards."
-unfoldable pub billed : Billed → Listed.Answer
-billed (Billing.Wards n) = Listed.gives n
-billed Billing.Left = Listed.refuses (refusal_of Billing.Left)
-billed Billing.NoWard = Listed.refuses (refusal_of Billing.NoWard)
-billed Billing.Short = Listed.refuses (refusal_of Billing.Short)
+abbrev pub billed : Result ℕ BillRefusal → Listed.Answer
+billed (Ok n) = Listed.gives n
+billed (Err k) = Listed.refuses (bill_refusal_number k)
 
 -- how many places it names
-unfoldable pub named : Billed → ℕ
-named (Billing.Wards n) = n
-named Billing.Left = 0
-named Billing.NoWard = 0
-named Billing.Short = 0
+abbrev pub named : Result ℕ BillRefusal → ℕ
+named (Ok n) = n
+named (Err k) = 0

@@ -1,5 +1,5 @@
 -- What the functions promise of the code's run. `BilledAs` and `WardsOf` are what a host reads.
-use Rattle.std.specs.Prelude.{◌≡◌, ℕ, suc, ◌-◌, ◌<◌, ◌≤◌, List, ◌++◌, map, length, take, drop, replicate}
+use Rattle.std.specs.Prelude.{◌≡◌, ℕ, suc, ◌-◌, ◌<◌, ◌≤◌, List, ◌++◌, map, length, take, drop, replicate, Result}
 use Rattle.semantics.specs.declared.Record.{Record}
 use Rattle.semantics.specs.Run.{task_of}
 use Rattle.semantics.specs.Operations.{Asked}
@@ -7,17 +7,17 @@ use Rattle.runtime.specs.declared.Run.{Run}
 use Rattle.runtime.specs.View.{model, context_of, SoundRun}
 use Rattle.runtime.specs.Asked.{queue_answer, queue_out}
 use Rattle.model_bill.specs.Bill.{wards_from, wards, ward_weight, ward_weights, shares_asked}
-use Rattle.bill_wards.specs.declared.Billed.{Billed}
+use Rattle.bill_wards.specs.declared.BillRefusal.{BillRefusal}
 use Rattle.bill_wards.specs.declared.Wards.{Wards}
 use Rattle.bill_wards.specs.declared.Walk.{Walk}
 use Rattle.bill_wards.specs.Answers.{billed, named}
 
 -- the lent places before and after, and the answer: "The shares go into a lent slice of 32-bit places"
-pub record AskedAs (asked : Asked (List ℕ)) (before after : List ℕ) (r : Billed) : Type 0 where
+pub record AskedAs (asked : Asked (List ℕ)) (before after : List ℕ) (r : Result ℕ BillRefusal) : Type 0 where
   pub answer : billed r ≡ queue_answer asked
   pub places : after ≡ queue_out asked before
 
-pub record BilledAs (run : Run) (bill : ℕ) (before after : List ℕ) (r : Billed) : Type 0 where
+pub record BilledAs (run : Run) (bill : ℕ) (before after : List ℕ) (r : Result ℕ BillRefusal) : Type 0 where
   -- of every run that came from open, the hand run or calls
   pub asked : SoundRun run → AskedAs (shares_asked (context_of run) (model run) bill (length before)) before after r
   -- of any other too: no place but those named is written, and a refusal writes none

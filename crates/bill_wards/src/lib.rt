@@ -7,7 +7,7 @@ ghost use Rattle.std.proofs.lemmas.List.Edits.{sets};
 ghost use Rattle.tasklist.specs.TaskList.{total};
 ghost use Rattle.semantics.specs.Sound.{weighs};
 ghost use Rattle.runtime.specs.View.{model};
-ghost use Rattle.bill_wards.specs.Answers.{refusal_of};
+ghost use Rattle.bill_wards.specs.Answers.{bill_refusal_number};
 ghost use Rattle.bill_wards.specs.Promises.{RecordOf, Room, Turned, WardsOf, BilledAs};
 
 use bill_shares::PLACES;
@@ -20,11 +20,9 @@ const RECORDS: usize = 128;
 // The state of a record whose task was never made.
 const NEVER_MADE: u8 = 0;
 
-// What sharing a bill answers.
-#[derive(Clone, Copy)]
-pub enum Billed {
-    // the number of wards: so many places were written
-    Wards(usize),
+// Why a bill is not shared.
+#[derive(Clone, Copy, Debug, PartialEq, Eq)]
+pub enum BillRefusal {
     // 28: a job is left in the run
     Left,
     // 29: there is no ward
@@ -33,7 +31,21 @@ pub enum Billed {
     Short,
 }
 
+// The number of request 114.
+impl From<BillRefusal> for u8 {
+    ghost from_gives = { λ refusal number. number ≡ bill_refusal_number refusal };
+
+    fn from(refusal: BillRefusal) -> u8 {
+        match refusal {
+            BillRefusal::Left => 28,
+            BillRefusal::NoWard => 29,
+            BillRefusal::Short => 17,
+        }
+    }
+}
+
 // The wards of a run, by rising number: so many numbers and weights at the front, zeros behind.
+// Kept: two arrays beside a count, since a bill is shared by weights alone: an array of wards would be taken apart first.
 #[derive(Clone, Copy)]
 pub struct Wards {
     pub count: usize,
@@ -48,26 +60,12 @@ pub struct Walk {
     pub until: usize,
 }
 
-// What was answered, as the number of request 114: 0 where the bill is shared.
-pub fn billed_number(answer: Billed) -> u32
-    ensures number { result ≡ refusal_of answer }
-    ensures most { result ≤ 29 }
-{
-    match answer {
-        Billed::Wards(_) => 0,
-        Billed::Left => 28,
-        Billed::NoWard => 29,
-        Billed::Short => 17,
-    }
-}
-
 // A task's record.
 fn record_of(run: Run, n: usize) -> Record
     requires { n < 128 }
     ensures { RecordOf run n result }
 {
-    let told = inspect::task_record(run, n as u32);
-    told.task
+    inspect::task_record(run, n as u32).unwrap().task
 }
 
 // The weight of task `n`, 0 above 127.
@@ -87,11 +85,8 @@ fn block_weight(run: Run, n: usize, size: usize) -> u32
     ensures { result ≡ total weighs (take size (drop n (model run).tasks)) % 2 ^ 32 }
 {
     let mut sum: u32 = 0;
-    let mut i = 0;
-    while i < size {
-        let weight = task_weight(run, n + i);
-        sum = std::num::wrapping_add_u32(sum, weight);
-        i += 1;
+    for task in n..n + size {
+        sum = sum.wrapping_add(task_weight(run, task));
     }
     sum
 }
@@ -110,19 +105,12 @@ fn turned(run: Run, walk: Walk, n: usize) -> Walk
     }
     let size = inspect::block_size(run, own.body);
     let weight = block_weight(run, n, size);
-    let found = walk.found;
-    let count = found.count;
-    let mut numbers = found.numbers;
-    let mut weights = found.weights;
-    numbers[count] = n as u8;
-    weights[count] = weight;
-    let more = Wards {
-        count: count + 1,
-        numbers,
-        weights,
-    };
+    let mut found = walk.found;
+    found.numbers[found.count] = n as u8;
+    found.weights[found.count] = weight;
+    found.count += 1;
     Walk {
-        found: more,
+        found,
         until: n + size,
     }
 }
@@ -131,56 +119,39 @@ fn turned(run: Run, walk: Walk, n: usize) -> Walk
 pub fn wards_of(run: Run) -> Wards
     ensures { WardsOf run result }
 {
-    let numbers = [0u8; PLACES];
-    let weights = [0u32; PLACES];
     let none = Wards {
         count: 0,
-        numbers,
-        weights,
+        numbers: [0; PLACES],
+        weights: [0; PLACES],
     };
     let mut walk = Walk {
         found: none,
         until: 1,
     };
-    let mut n = 1;
-    while n < RECORDS {
+    for n in 1..RECORDS {
         walk = turned(run, walk, n);
-        n += 1;
     }
     walk.found
 }
 
-// Puts the first `count` values at the front.
-fn put_values(values: [u32; PLACES], count: usize, out: &mut [u32])
-    requires { (count ≤ 128) × (count ≤ length out.old) }
-    ensures { out.new ≡ sets out.old 0 (take count values) }
-{
-    let mut i = 0;
-    while i < count {
-        out[i] = values[i];
-        i += 1;
-    }
-}
-
 // Shares a bill in pence among the wards, into the first places of `out`, by rising job number: 28 a job is left, 29 no ward, 17
 // `out` too short.
-pub fn shares(run: Run, bill: u32, out: &mut [u32]) -> Billed
+pub fn shares(run: Run, bill: u32, out: &mut [u32]) -> Result<usize, BillRefusal>
     ensures { BilledAs run bill out.old out.new result }
 {
     let left = inspect::tasks_left(run);
     if 0 < left {
-        return Billed::Left;
+        return Err(BillRefusal::Left);
     }
     let wards = wards_of(run);
     let count = wards.count;
     if count == 0 {
-        return Billed::NoWard;
+        return Err(BillRefusal::NoWard);
     }
     if out.len() < count {
-        return Billed::Short;
+        return Err(BillRefusal::Short);
     }
-    let weights = wards.weights;
-    let given = bill_shares::shares_of(bill, weights, count);
-    put_values(given, count, out);
-    Billed::Wards(count)
+    let given = bill_shares::shares_of(bill, wards.weights, count);
+    out[..count].copy_from_slice(&given[..count]);
+    Ok(count)
 }

@@ -1,114 +1,76 @@
 // What is asked of a run, in lines: entries, totals, records.
 ghost use Rattle.std.specs.Prelude.{◌≤◌};
 
-use crate::numbers::{of_byte, of_word, refusal_number};
-use crate::text::{end_line, put_next, put_number, put_text};
-use runtime::Run;
-use semantics::{Answer, CallRefusal, Record};
+use crate::text::put_numbers;
+use runtime::{Recorded, Run};
+use semantics::CallRefusal;
+use std::io::{self, Write};
 
 // `LABEL N refused K`
-pub fn put_refused(
-    label: &[u8],
+pub fn put_refused<W: Write>(
+    out: &mut W,
+    label: &str,
     n: u32,
     refusal: CallRefusal,
-    out: &mut [u8; 4096],
-    at: usize,
-) -> usize {
-    let mut o = put_text(out, at, label);
-    o = put_next(out, o, n as u64);
-    o = put_text(out, o, b" refused");
-    o = put_next(out, o, refusal_number(refusal));
-    end_line(out, o)
+) -> io::Result<()> {
+    let number = u8::from(refusal);
+    writeln!(out, "{label} {n} refused {number}")
 }
 
 // How many locations the list has (document 01: entries, C).
-pub fn locations(run: Run) -> usize
+pub fn locations(run: &Run) -> usize
     ensures { result ≤ 64 }
 {
-    let tables = run.tables;
-    let n = tables.locations;
-    if n < 64 { n as usize } else { 64 }
+    usize::from(run.tables.locations).min(64)
 }
 
 // `LABEL N N ..`, the memory (document 01: the entries).
-pub fn put_memory(run: Run, label: &[u8], out: &mut [u8; 4096], at: usize) -> usize {
-    let count = locations(run);
-    let mut o = put_text(out, at, label);
-    let mut i = 0;
-    while i < count {
-        o = put_next(out, o, of_word(run.memory[i]));
-        i += 1;
-    }
-    end_line(out, o)
+pub fn put_memory<W: Write>(out: &mut W, label: &str, run: &Run) -> io::Result<()> {
+    write!(out, "{label}")?;
+    put_numbers(out, &run.memory[..locations(run)])?;
+    writeln!(out)
 }
 
-// ` CALLS WEIGHT LEFT`
-pub fn put_counts(run: Run, out: &mut [u8; 4096], at: usize) -> usize {
-    let mut o = put_next(out, at, run.calls as u64);
-    o = put_next(out, o, run.weight as u64);
-    put_next(out, o, run.left as u64)
+// ` CALLS WEIGHT LEFT` to the end of its line
+pub fn put_counts<W: Write>(out: &mut W, run: &Run) -> io::Result<()> {
+    writeln!(out, " {} {} {}", run.calls, run.weight, run.left)
 }
 
 // `LABEL CALLS WEIGHT LEFT`
-pub fn put_totals(run: Run, label: &[u8], out: &mut [u8; 4096], at: usize) -> usize {
-    let mut o = put_text(out, at, label);
-    o = put_counts(run, out, o);
-    end_line(out, o)
+pub fn put_totals<W: Write>(out: &mut W, label: &str, run: &Run) -> io::Result<()> {
+    write!(out, "{label}")?;
+    put_counts(out, run)
 }
 
-// ` S B P R0 R1 R2 R3 D F W`
-fn put_fields(own: Record, out: &mut [u8; 4096], at: usize) -> usize {
-    let mut o = put_next(out, at, of_byte(own.state));
-    o = put_next(out, o, of_byte(own.body));
-    o = put_next(out, o, of_word(own.pc));
-    o = put_next(out, o, of_word(own.registers[0]));
-    o = put_next(out, o, of_word(own.registers[1]));
-    o = put_next(out, o, of_word(own.registers[2]));
-    o = put_next(out, o, of_word(own.registers[3]));
-    o = put_next(out, o, of_word(own.steps));
-    o = put_next(out, o, of_byte(own.fault));
-    put_next(out, o, of_word(own.weight))
-}
-
-// The 64 modes as digits.
-fn put_modes(modes: [u8; 64], out: &mut [u8; 4096], at: usize) -> usize {
-    let mut o = put_text(out, at, b" ");
-    let mut i = 0;
-    while i < 64 {
-        o = put_number(out, o, modes[i] as u64);
-        i += 1;
+// ` S B P R0 R1 R2 R3 D F W MODES`, the 64 modes as digits
+fn put_fields<W: Write>(out: &mut W, recorded: &Recorded) -> io::Result<()> {
+    let own = recorded.task;
+    write!(out, " {} {} {}", own.state, own.body, own.pc)?;
+    put_numbers(out, &own.registers)?;
+    write!(out, " {} {} {} ", own.steps, own.fault, own.weight)?;
+    for mode in &recorded.modes {
+        write!(out, "{mode}")?;
     }
-    o
+    Ok(())
 }
 
 // `LABEL T ..`, a task's record; nothing where its state is 0.
-pub fn put_record(run: Run, task: u32, label: &[u8], out: &mut [u8; 4096], at: usize) -> usize {
-    let got = inspect::task_record(run, task);
-    let answer = got.answer;
-    match answer {
-        Answer::Refused { refusal } => put_refused(label, task, refusal, out, at),
-        Answer::Accepted => {
-            let own = got.task;
-            let modes = got.modes;
-            if own.state == 0 {
-                return at;
-            }
-            let mut o = put_text(out, at, label);
-            o = put_next(out, o, task as u64);
-            o = put_fields(own, out, o);
-            o = put_modes(modes, out, o);
-            end_line(out, o)
+pub fn put_record<W: Write>(out: &mut W, label: &str, run: &Run, task: u32) -> io::Result<()> {
+    match inspect::task_record(*run, task) {
+        Err(refusal) => put_refused(out, label, task, refusal),
+        Ok(recorded) if recorded.task.state == 0 => Ok(()),
+        Ok(recorded) => {
+            write!(out, "{label} {task}")?;
+            put_fields(out, &recorded)?;
+            writeln!(out)
         }
     }
 }
 
 // The records of all tasks.
-pub fn put_records(run: Run, label: &[u8], out: &mut [u8; 4096], at: usize) -> usize {
-    let mut o = at;
-    let mut task = 0;
-    while task < 128 {
-        o = put_record(run, task, label, out, o);
-        task += 1;
+pub fn put_records<W: Write>(out: &mut W, label: &str, run: &Run) -> io::Result<()> {
+    for task in 0..128 {
+        put_record(out, label, run, task)?;
     }
-    o
+    Ok(())
 }

@@ -1,70 +1,42 @@
 // The file of cases: where the parts of a case end, and the numbers in them, least byte first.
-ghost use Rattle.std.specs.Prelude.{◌+◌, ◌≤◌, ◌<◌, ◌≡◌, length};
-ghost use Rattle.casecheck.specs.File.{part_end, case_ends};
+ghost use Rattle.std.specs.Prelude.{◌+◌, ◌≤◌, ◌≡◌, length, IfSome};
+ghost use Rattle.casecheck.specs.File.{part_end, case_ends, Within};
 
-use crate::{CaseEnds, PartEnd};
-
-// A byte as a number.
-fn wide(x: u8) -> usize
-    ensures { (result ≡ x) × (result < 256) }
-{
-    x as usize
+// Where the parts of a case end: the list, the memory (document 01: library), the calls. The last one's end is the case's.
+#[derive(Clone, Copy)]
+pub struct CaseEnds {
+    pub list: usize,
+    pub memory: usize,
+    pub calls: usize,
 }
 
-fn wide32(x: u8) -> u32
-    ensures { (result ≡ x) × (result < 256) }
-{
-    x as u32
-}
-
-// Where a part ends that begins at `at`: a count of two bytes, and as many places of `width` bytes.
-pub fn part_end(bytes: &[u8], at: usize, width: usize) -> PartEnd
+// Where a part ends that begins at `at`: a count of two bytes, and as many places of `width` bytes. None where the file ends
+// before.
+#[tactic(auto, unfolding(crate::specs::File::part_end, crate::specs::File::count_at))]
+fn part_end(bytes: &[u8], at: usize, width: usize) -> Option<usize>
     requires { width ≤ 5 }
-    ensures { result ≡ part_end bytes.now at width }
+    ensures end { result ≡ part_end bytes.now at width }
+    ensures within { IfSome result (λ e. (at + 2 ≤ e) × (e ≤ length bytes.now)) }
 {
-    let n = bytes.len();
-    if n < at {
-        return PartEnd::Bad;
-    }
-    if n - at < 2 {
-        return PartEnd::Bad;
-    }
-    let count = wide(bytes[at]) + 256 * wide(bytes[at + 1]);
-    let first = at + 2;
-    let size = count * width;
-    if n - first < size {
-        return PartEnd::Bad;
-    }
-    PartEnd::At(first + size)
+    let count = bytes.get(at..)?.first_chunk::<2>()?;
+    let end = at + 2 + usize::from(u16::from_le_bytes(*count)) * width;
+    if end <= bytes.len() { Some(end) } else { None }
 }
 
-// Where the three parts of a case end: the list, the memory (document 01: library), the calls.
-pub fn case_ends(bytes: &[u8], at: usize) -> CaseEnds
-    ensures { result ≡ case_ends bytes.now at }
+// Where the parts of a case end that begins at `at`.
+#[tactic(auto, unfolding(crate::specs::File::case_ends))]
+pub fn case_ends(bytes: &[u8], at: usize) -> Option<CaseEnds>
+    ensures ends { result ≡ case_ends bytes.now at }
+    ensures within { IfSome result (Within bytes.now at) }
 {
-    match part_end(bytes, at, 1) {
-        PartEnd::Bad => CaseEnds::Bad,
-        PartEnd::At(list) => match part_end(bytes, list, 4) {
-            PartEnd::Bad => CaseEnds::Bad,
-            PartEnd::At(memory) => match part_end(bytes, memory, 5) {
-                PartEnd::Bad => CaseEnds::Bad,
-                PartEnd::At(calls) => CaseEnds::At {
-                    list,
-                    memory,
-                    calls,
-                },
-            },
-        },
-    }
-}
-
-// Four bytes as a number.
-pub fn word(bytes: &[u8], at: usize) -> u32
-    requires { at + 4 ≤ length bytes.now }
-{
-    let low = wide32(bytes[at]) + 256 * wide32(bytes[at + 1]);
-    let high = wide32(bytes[at + 2]) + 256 * wide32(bytes[at + 3]);
-    low + 65536 * high
+    let list = part_end(bytes, at, 1)?;
+    let memory = part_end(bytes, list, 4)?;
+    let calls = part_end(bytes, memory, 5)?;
+    Some(CaseEnds {
+        list,
+        memory,
+        calls,
+    })
 }
 
 // The numbers at the front of an array, as many as it has room for.
@@ -72,13 +44,9 @@ pub fn words(bytes: &[u8]) -> [u32; 16384]
     ensures { 16384 ≡ length result }
 {
     let mut out = [0u32; 16384];
-    let mut i = 0;
-    while i < 16384 {
-        if bytes.len() < 4 * i + 4 {
-            return out;
-        }
-        out[i] = word(bytes, 4 * i);
-        i += 1;
+    let (fours, _) = bytes.as_chunks::<4>();
+    for (word, four) in out.iter_mut().zip(fours) {
+        *word = u32::from_le_bytes(*four);
     }
     out
 }
@@ -87,23 +55,10 @@ pub fn words(bytes: &[u8]) -> [u32; 16384]
 pub fn word_count(bytes: &[u8]) -> usize
     ensures { result ≤ 16384 }
 {
-    let n = bytes.len() / 4;
-    if n < 16384 { n } else { 16384 }
+    (bytes.len() / 4).min(16384)
 }
 
-// Whether every call, from `from` to `to`, is a start, a step or an end.
-pub fn kinds_known(bytes: &[u8], from: usize, to: usize) -> bool
-    requires { to ≤ length bytes.now }
-{
-    let mut at = from;
-    while at < to {
-        if 2 < bytes[at] {
-            return false;
-        }
-        if to - at < 5 {
-            return true;
-        }
-        at += 5;
-    }
-    true
+// Whether every call, of five bytes, is a start, a step or an end.
+pub fn kinds_known(calls: &[u8]) -> bool {
+    calls.iter().step_by(5).all(|kind| *kind <= 2)
 }

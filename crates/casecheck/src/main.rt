@@ -1,15 +1,12 @@
-// Replays a file of cases against the runtime and prints what comes of each (docs/cases.md). A file that can't be read,
+// Replays a file of cases, and prints what the calls and what is asked of each run give (docs/cases.md). A file that can't be read,
 // that ends within a case, that has a call of another kind or more than 65,536 bytes: `bad file`, behind the cases
 // before.
 #![tactic(auto)]
 
-ghost use Rattle.std.specs.Prelude.{◌+◌, ◌≤◌, length};
-
-use host_files::fill;
-use runtime::Run;
+use host_files::{fill, open_named};
 use std::env::Env;
-use std::fs::{File, Files};
-use std::io::Read;
+use std::fs::Files;
+use std::io::{self, BufWriter, Read, Write};
 
 mod asks;
 mod bill;
@@ -17,132 +14,68 @@ mod cases;
 mod file;
 mod lent;
 mod moves;
-mod numbers;
 mod rounds;
 mod searches;
 mod text;
 
-// Where a part of a case ends.
-#[derive(Clone, Copy)]
-pub enum PartEnd {
-    // The file ends before.
-    Bad,
-    At(usize),
-}
+use cases::put_case;
+use file::{case_ends, kinds_known};
+use text::put_bad_file;
 
-// Where the parts of a case end; the last one's end is the case's.
-#[derive(Clone, Copy)]
-pub enum CaseEnds {
-    // The file ends before.
-    Bad,
-    At {
-        list: usize,
-        memory: usize,
-        calls: usize,
-    },
-}
-
-// A run behind its calls, and how much of the output's buffer is filled.
-#[derive(Clone, Copy)]
-pub struct Replayed {
-    pub run: Run,
-    pub at: usize,
-}
-
-// How many moves were made, and the run behind them.
-#[derive(Clone, Copy)]
-pub struct Played {
-    pub made: u64,
-    pub run: Run,
-}
-
-// The case from `at` on, whose parts end there.
-fn put_parts(
-    bytes: &[u8],
-    at: usize,
-    list: usize,
-    memory: usize,
-    calls: usize,
-    number: u64,
-    out: &mut [u8; 4096],
-    o: usize,
-) -> usize
-    requires { (at + 2 ≤ list) × (list + 2 ≤ memory) × (memory + 2 ≤ calls) × (calls ≤ length bytes.now) }
-{
-    let first = at + 2;
-    let second = list + 2;
-    let third = memory + 2;
-    cases::put_case(
-        number,
-        &bytes[first..list],
-        &bytes[second..memory],
-        &bytes[third..calls],
-        out,
-        o,
-    )
-}
+// How many bytes the longest file has.
+const ROOM: usize = 65536;
 
 // All cases of a file.
-fn put_cases(bytes: &[u8], out: &mut [u8; 4096]) -> usize {
-    let mut o = 0;
+fn put_cases<W: Write>(out: &mut W, bytes: &[u8]) -> io::Result<()> {
     let mut number = 0;
     let mut at = 0;
     while at < bytes.len() {
-        match file::case_ends(bytes, at) {
-            CaseEnds::Bad => {
-                return text::put_text(out, o, b"bad file\n");
-            }
-            CaseEnds::At {
-                list,
-                memory,
-                calls,
-            } => {
-                if !file::kinds_known(bytes, memory + 2, calls) {
-                    return text::put_text(out, o, b"bad file\n");
-                }
-                o = put_parts(bytes, at, list, memory, calls, number, out, o);
-                number += 1;
-                at = calls;
-            }
+        let Some(ends) = case_ends(bytes, at) else {
+            return put_bad_file(out);
+        };
+        let list = &bytes[at + 2..ends.list];
+        let numbers = &bytes[ends.list + 2..ends.memory];
+        let calls = &bytes[ends.memory + 2..ends.calls];
+        if !kinds_known(calls) {
+            return put_bad_file(out);
         }
+        put_case(out, number, list, numbers, calls)?;
+        number += 1;
+        at = ends.calls;
     }
-    o
-}
-
-// Whether a file has more bytes.
-fn more<F: Read>(file: &mut F) -> bool {
-    let mut byte = [0u8; 1];
-    0 < fill(file, &mut byte)
+    Ok(())
 }
 
 // The cases of a file that is open.
-fn replay_open<F: Read>(file: &mut F) {
-    let mut bytes = io::large_buffer();
+fn put_file<W: Write, F: Read>(out: &mut W, file: &mut F) -> io::Result<()> {
+    let mut bytes = [0u8; ROOM];
     let n = fill(file, &mut bytes);
-    if more(file) {
-        text::bad_file();
-        return;
+    if 0 < fill(file, &mut [0]) {
+        return put_bad_file(out);
     }
-    let mut out = io::buffer();
-    let filled = put_cases(&bytes[..n], &mut out);
-    text::flush(&out, filled);
+    put_cases(out, &bytes[..n])
 }
 
 // The cases of the file of a name.
-fn replay_file<R: Files>(rt: &R, name: &[u8]) {
-    match str::from_utf8(name) {
-        Err(_) => text::bad_file(),
-        Ok(path) => match File::open(rt, path) {
-            Err(_) => text::bad_file(),
-            Ok(mut file) => replay_open(&mut file),
-        },
+fn put_named<W: Write, R: Files>(out: &mut W, rt: &R, name: &[u8]) -> io::Result<()> {
+    match open_named(rt, name) {
+        Some(mut file) => put_file(out, &mut file),
+        None => put_bad_file(out),
     }
 }
 
-fn main(rt: HostRuntime) {
-    let mut name = io::buffer();
+// The cases of the file that the first argument names.
+fn run(rt: &HostRuntime) -> io::Result<()> {
+    let mut out = BufWriter::new(rt.alloc(), io::writer(rt))?;
+    let mut name = [0u8; 4096];
     match rt.arg(1, &mut name) {
-        Ok(n) => replay_file(&rt, &name[..n]),
-        Err(_) => text::bad_file(),
+        Ok(n) => put_named(&mut out, rt, &name[..n])?,
+        Err(_) => put_bad_file(&mut out)?,
     }
+    out.flush()
+}
+
+// Where the output fails, the rest is left out and nothing is told.
+fn main(rt: HostRuntime) {
+    let _ = run(&rt);
 }

@@ -1,69 +1,59 @@
 // The move of the foremost task (request 112), in lines: once, and again and again until it is refused.
-use crate::Played;
 use crate::asks::{put_counts, put_memory, put_record};
-use crate::numbers::refusal_number;
-use crate::text::{end_line, put_next, put_text};
 use runtime::Run;
-use turns::MoveAnswer;
+use std::io::{self, Write};
+use turns::MoveRefusal;
 
-// 0, 25, or the refusal of the call.
-fn move_number(answer: MoveAnswer) -> u64 {
-    match answer {
-        MoveAnswer::Made => 0,
-        MoveAnswer::NoneLeft => 25,
-        MoveAnswer::Refused { refusal } => refusal_number(refusal),
-    }
+// How many moves were made, and the run behind them.
+#[derive(Clone, Copy)]
+struct Outcome {
+    made: u32,
+    run: Run,
 }
 
-// `LABEL N CALLS WEIGHT LEFT`
-fn put_moved(label: &[u8], n: u64, run: Run, out: &mut [u8; 4096], at: usize) -> usize {
-    let mut o = put_text(out, at, label);
-    o = put_next(out, o, n);
-    o = put_counts(run, out, o);
-    end_line(out, o)
+// 0, 25, or the refusal of the call.
+fn move_number(answer: Result<(), MoveRefusal>) -> u8 {
+    match answer {
+        Ok(()) => 0,
+        Err(refusal) => u8::from(refusal),
+    }
 }
 
 // The record, behind a move, of the task that was foremost before; nothing where none was left.
-fn put_foremost(before: Run, after: Run, out: &mut [u8; 4096], at: usize) -> usize {
+fn put_foremost<W: Write>(out: &mut W, before: &Run, after: &Run) -> io::Result<()> {
     if before.left == 0 {
-        return at;
+        return Ok(());
     }
-    let foremost = before.order[0];
-    put_record(after, foremost as u32, b"move record", out, at)
+    put_record(out, "move record", after, u32::from(before.order[0]))
 }
 
 // The lines of one move.
-fn put_move(run: Run, out: &mut [u8; 4096], at: usize) -> usize {
-    let moved = turns::foremost_move(run);
-    let answer = moved.answer;
-    let after = moved.run;
-    let mut o = put_moved(b"move", move_number(answer), after, out, at);
-    o = put_memory(after, b"move entries", out, o);
-    put_foremost(run, after, out, o)
+fn put_move<W: Write>(out: &mut W, run: &Run) -> io::Result<()> {
+    let moved = turns::foremost_move(*run);
+    write!(out, "move {}", move_number(moved.answer))?;
+    put_counts(out, &moved.run)?;
+    put_memory(out, "move entries", &moved.run)?;
+    put_foremost(out, run, &moved.run)
 }
 
 // The move until it is refused. A run has at most 4,352 calls, 34 of each of 128 tasks: one more turn meets the refusal.
-fn played(run: Run) -> Played {
-    let mut r = run;
-    let mut made = 0;
-    while made <= 4352 {
-        let moved = turns::foremost_move(r);
-        let answer = moved.answer;
-        let next = moved.run;
-        r = next;
-        if move_number(answer) != 0 {
-            return Played { made, run: r };
+fn played(run: &Run) -> Outcome {
+    let mut run = *run;
+    for made in 0..4353 {
+        let moved = turns::foremost_move(run);
+        run = moved.run;
+        if moved.answer.is_err() {
+            return Outcome { made, run };
         }
-        made += 1;
     }
-    Played { made, run: r }
+    Outcome { made: 4353, run }
 }
 
 // The lines of the move and of its repetition, each on a copy of the run.
-pub fn put_moves(run: Run, out: &mut [u8; 4096], at: usize) -> usize {
-    let mut o = put_move(run, out, at);
+pub fn put_moves<W: Write>(out: &mut W, run: &Run) -> io::Result<()> {
+    put_move(out, run)?;
     let all = played(run);
-    let last = all.run;
-    o = put_moved(b"moves", all.made, last, out, o);
-    put_memory(last, b"moves entries", out, o)
+    write!(out, "moves {}", all.made)?;
+    put_counts(out, &all.run)?;
+    put_memory(out, "moves entries", &all.run)
 }

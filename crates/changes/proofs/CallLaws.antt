@@ -1,17 +1,15 @@
 -- The two ways in which a call keeps its promise: refused, and taken. Assumes nothing.
-use Rattle.std.proofs.Common.{◌≡◌, ℕ, ◌+◌, ◌-◌, ◌%◌, ◌^◌, ◌<◌, ◌≤◌, Bool, true, false, List, [], ◌∷◌, length, take, set, sym, refl, ap, ◌∙◌, subst, arith, length-set, length-take}
+use Rattle.std.proofs.Common.{Result, Ok, Err, ◌≡◌, ℕ, ◌+◌, ◌-◌, ◌%◌, ◌^◌, ◌<◌, ◌≤◌, Bool, true, false, List, [], ◌∷◌, length, take, set, sym, refl, ap, ◌∙◌, subst, arith, length-set, length-take}
 use native.Mathlib.Decide.{ℕ_discrete}
 use Rattle.tasklist.specs.Decode.{accepted}
 use Rattle.tasklist.specs.Tables.{Holds, list_of}
 use Rattle.semantics.specs.declared.Record.{Record}
 use Rattle.semantics.specs.declared.CallRefusal.{CallRefusal}
-use Rattle.semantics.specs.declared.Answer.{Answer}
-use Rattle.semantics.specs.declared.Answer.TheVariants as Answers
 use Rattle.semantics.specs.Run.{Task, start_weight, end_weight}
 use Rattle.semantics.specs.Effect.{Effect, keep, in_state}
 use Rattle.semantics.specs.Plan.{Action, start, «end»}
 use Rattle.semantics.specs.Call.{after_all, refuse, accept, edited, charged, written, splice, stays, places, changes, apply}
-use Rattle.semantics.specs.Answers.{refusal_number, answer_number, outcome_number, task_from}
+use Rattle.semantics.specs.Answers.{refusal_number, outcome_number, task_from}
 use Rattle.semantics.specs.Operations.{WeightsAccepted}
 use Rattle.semantics.specs.Sound.{Sound}
 use Rattle.semantics.proofs.Order.{splice_same, splice_other}
@@ -34,16 +32,12 @@ use Rattle.plans.proofs.ViewLaws.{same_context, same_run, tasks_set}
 -- "Each accepted call adds 1 to calls and its weight to record and run": task n with another record, and another order
 unfoldable pub applied : ℕ → Record → List ℕ → ℕ → ℕ → Parts → Parts
 applied n t order left w run =
-    record {
-      tables = run.tables;
-      memory = run.memory;
+    record run {
       records = set run.records n (heavier w t);
-      modes = run.modes;
       order = order;
       left = left;
       calls = (run.calls + 1) % 2 ^ 32;
       weight = (run.weight + w) % 2 ^ 32;
-      weights = run.weights;
     }
 
 -- "its state becomes 2"
@@ -59,17 +53,17 @@ pub record EndedAs (n place : ℕ) (from r : Parts) : Type 0 where
       → take (from.left - 1) r.order ≡ without place (take from.left from.order)
 
 -- A call's run alone.
-pub one_call : (a : Action) (run : Parts) (n : ℕ) (given : Answer) (next : Parts) → CalledAs a run n given next → CallsMade (call_of a n ∷ []) run next
+pub one_call : (a : Action) (run : Parts) (n : ℕ) (given : Result Unit CallRefusal) (next : Parts) → CalledAs a run n given next → CallsMade (call_of a n ∷ []) run next
 unfolding after_all
 one_call a run n given next h = record { list = h.list; weights = h.weights; run = h.run; sound = h.sound }
 
 -- A call that is refused: the very run is handed back.
 pub called_refused :
     (a : Action) (run : Parts) (n : ℕ) (k : CallRefusal) → (SoundRun run → decided run a n ≡ refuse (refusal_number k))
-    → CalledAs a run n (Answers.Refused k) run
+    → CalledAs a run n (Err k) run
 called_refused a run n k h =
     record {
-      answer = λ s. unfold answer_number outcome_number in sym (ap outcome_number (h s));
+      answer = λ s. unfold outcome_number in sym (ap outcome_number (h s));
       run = λ s. sym (after_refuse (context_of run) (model run) (call_of a n) (refusal_number k) (h s));
       sound = λ s. s;
       list = refl;
@@ -86,15 +80,15 @@ pub called_taken :
     (a : Action) (run : Parts) (n : ℕ) (e : Effect) (next : Parts) → next.tables ≡ run.tables
     → next.weights ≡ run.weights → (SoundRun run → decided run a n ≡ accept e)
     → (SoundRun run → (model next ≡ apply n e (model run)) × Whole next)
-    → CalledAs a run n Answers.Accepted next
+    → CalledAs a run n (Ok tt) next
 called_taken a run n e next t w h m =
     record {
-      answer = λ s. unfold answer_number outcome_number in sym (ap outcome_number (h s));
+      answer = λ s. unfold outcome_number in sym (ap outcome_number (h s));
       run = λ s. (m s).0 ∙ sym (after_accept (context_of run) (model run) (call_of a n) e (h s));
       sound = keeps;
       list = t;
       weights = w;
-      refused = λ k q. let z : ◌≡◌ {A = ℕ} 0 1 = cc in let bad : ⊥ = omega arith in absurd bad;
+      refused = λ k q. let bad : ⊥ = cc in absurd bad;
     }
   where
     keeps : SoundRun run → SoundRun next
@@ -189,7 +183,7 @@ splice_self n (k ∷ o) = sort (splice_self n o) (ℕ_discrete k n)
 -- A start that is accepted.
 pub start_taken :
     (run : Parts) (n : ℕ) → n < 128 → (SoundRun run → decided run start n ≡ accept (start_effect run n))
-    → CalledAs start run n Answers.Accepted (started n run)
+    → CalledAs start run n (Ok tt) (started n run)
 start_taken run n below h = called_taken start run n (start_effect run n) (started n run) (unfold applied in refl) (unfold applied in refl) h after_start
   where
     after_start : SoundRun run → (model (started n run) ≡ apply n (start_effect run n) (model run)) × Whole (started n run)
@@ -217,7 +211,7 @@ left_out run n place s p =
 pub end_taken :
     (run : Parts) (n place : ℕ) (next : Parts) → n < 128
     → (SoundRun run → Placed run n place × (decided run «end» n ≡ accept (end_effect run n))) → EndedAs n place run next
-    → CalledAs «end» run n Answers.Accepted next
+    → CalledAs «end» run n (Ok tt) next
 end_taken run n place next below h e =
     called_taken «end» run n (end_effect run n) next (ap (λ r. r.tables) e.run ∙ (unfold applied in refl))
     (ap (λ r. r.weights) e.run ∙ (unfold applied in refl)) (λ s. (h s).1) (λ s. after_end s (h s).0)

@@ -2,122 +2,98 @@
 // It only moves bytes; what it prints comes from the crates `wording` and `transcript`.
 #![tactic(auto)]
 
-ghost use Rattle.std.specs.Prelude.{◌+◌, ◌*◌, ◌/◌, ◌≤◌, ◌≡◌, length};
+ghost use Rattle.std.specs.Prelude.{◌+◌, ◌*◌, ◌/◌, ◌≤◌, ◌≡◌, length, take};
+ghost use Rattle.host_files.specs.Files.{size_of};
 ghost use Rattle.transcript.specs.Promises.{FedAs};
-ghost use Rattle.runtime.specs.Asked.{open_number};
-ghost use Rattle.coordinator.specs.Files.{number_of};
+ghost use Rattle.coordinator.specs.Files.{OpenedFrom};
 
-use host_files::{FileRead, LIBRARY_ROOM, LIST_ROOM, read_file, size_of};
-use runtime::{OpenAnswer, Run};
+use host_files::Folder;
+use runtime::{OpenRefusal, Run};
 use std::fs::Files;
-use std::io::Read;
+use std::io::{self, Read};
 use tasklist::Refusal;
 use transcript::Fed;
-use wording::Pending;
 
-// Standard output's number.
-const STDOUT: i32 = 1;
-
-// A turn of the loop: the run and the pending byte after a piece of the input, and whether there was one.
+// Between two pieces of the input: the run after the calls so far, and the byte that waits for the next piece.
 #[derive(Clone, Copy)]
-struct Turn {
+struct Session {
     run: Run,
-    pending: Pending,
-    more: bool,
+    pending: Option<u8>,
 }
 
-// What open answers, by how jobs.bin was read: 1 where it can't be.
-fn answer_of(jobs: FileRead, answer: OpenAnswer) -> OpenAnswer
-    ensures { open_number result ≡ number_of jobs (open_number answer) }
+// What open answers, by the two files: a jobs.bin that can't be read is refused with 1.
+#[tactic(auto, unfolding(runtime::specs::Asked::open_number))]
+fn opened(folder: &Folder) -> Result<Run, OpenRefusal>
+    ensures { OpenedFrom folder.now.jobs.read folder.now.jobs.buffer (take (size_of folder.now.library.read) folder.now.library.buffer) result }
 {
-    match jobs {
-        FileRead::Unreadable => OpenAnswer::Refused {
-            refusal: Refusal::Incomplete,
-        },
-        FileRead::Bytes(_) => answer,
+    match folder.jobs.bytes() {
+        Some(jobs) => wording::open_files(jobs, folder.library_bytes()),
+        None => Err(OpenRefusal::List(Refusal::Incomplete)),
     }
 }
 
 // Feeds a piece that is not too long, where there is room for all its lines: the whole of it is used.
-fn fed_whole(run: Run, pending: Pending, piece: &[u8], out: &mut [u8]) -> Fed
+fn fed_whole(run: Run, pending: Option<u8>, piece: &[u8], out: &mut [u8]) -> Fed
     requires { (length piece.now ≤ 511) × (4 * (length piece.now / 2 + 1) ≤ length out.old) }
     ensures { FedAs run pending piece.now out.old out.new result × (result.used ≡ length piece.now) }
 {
     transcript::feed(run, pending, piece, out)
 }
 
-// Reads a piece of the input, makes its calls and prints their lines. A read that fails counts as the input's end.
-fn take_turn<I: Read>(input: &mut I, run: Run, pending: Pending) -> Turn {
-    let mut piece = [0u8; 511];
-    let n = input.read(&mut piece).unwrap_or(0);
-    if n == 0 {
-        return Turn {
-            run,
-            pending,
-            more: false,
-        };
-    }
+// Makes the calls of a piece of the input and prints their lines.
+fn take_turn(rt: &impl Print, session: Session, piece: &[u8]) -> io::Result<Session>
+    requires { length piece.now ≤ 511 }
+{
     let mut out = [0u8; 1024];
-    let fed = fed_whole(run, pending, &piece[..n], &mut out);
-    let wrote = fed.wrote;
-    io::write_all(STDOUT, &out[..wrote]);
-    let next = fed.run;
-    let rest = fed.pending;
-    Turn {
-        run: next,
-        pending: rest,
-        more: true,
-    }
+    let fed = fed_whole(session.run, session.pending, piece, &mut out);
+    rt.write_all(&out[..fed.wrote])?;
+    Ok(Session {
+        run: fed.run,
+        pending: fed.pending,
+    })
 }
 
 // What is printed at the input's end.
-fn finish(run: Run, pending: Pending) {
+fn finish(rt: &impl Print, session: Session) -> io::Result<()> {
     let mut out = [0u8; 1024];
-    let half = wording::half_line(pending, &mut out);
-    io::write_all(STDOUT, &out[..half]);
-    let rest = wording::closing_lines(run, &mut out);
-    io::write_all(STDOUT, &out[..rest]);
+    let half = wording::half_line(session.pending, &mut out);
+    rt.write_all(&out[..half])?;
+    let rest = wording::closing_lines(session.run, &mut out);
+    rt.write_all(&out[..rest])
 }
 
-// The whole input, piece by piece. A proved loop has to end, and nothing says that the input does: it counts down from a
-// number of pieces that no input has.
-fn serve<I: Read>(input: &mut I, run: Run) {
-    let mut turns = u64::MAX;
-    let mut r = run;
-    let mut pending = Pending::Nothing;
-    while turns > 0 {
-        let t = take_turn(input, r, pending);
-        r = t.run;
-        pending = t.pending;
-        if !t.more {
+// The whole input, piece by piece; a read that fails counts as its end. A proved loop has to end, and nothing says that the
+// input does: it goes over more pieces than any input has.
+fn serve<I: Read>(rt: &impl Print, input: &mut I, run: Run) -> io::Result<()> {
+    let mut session = Session { run, pending: None };
+    for _ in 0..u64::MAX {
+        let mut piece = [0u8; 511];
+        let n = input.read(&mut piece).unwrap_or(0);
+        if n == 0 {
             break;
         }
-        turns -= 1;
+        session = take_turn(rt, session, &piece[..n])?;
     }
-    finish(r, pending);
+    finish(rt, session)
+}
+
+// The line of a failed open.
+fn refuse(rt: &impl Print, refusal: OpenRefusal) -> io::Result<()> {
+    let mut out = [0u8; 16];
+    let n = wording::open_line(refusal, &mut out);
+    rt.write_all(&out[..n])
 }
 
 // The files of the folder that it runs in, and the calls of an input.
-fn coordinate<R: Files, I: Read>(rt: &R, input: &mut I) {
-    let mut jobs = [0u8; LIST_ROOM];
-    let list = read_file(rt, b"jobs.bin", &mut jobs);
-    let listed = size_of(list);
-    let mut numbers = [0u8; LIBRARY_ROOM];
-    let count = size_of(read_file(rt, b"library.bin", &mut numbers));
-    let opened = wording::open_files(&jobs[..listed], &numbers[..count]);
-    let answered = opened.answer;
-    let answer = answer_of(list, answered);
-    if wording::open_number(answer) == 0 {
-        let run = opened.run;
-        serve(input, run);
-        return;
+fn coordinate<R: Files + Print, I: Read>(rt: &R, input: &mut I) -> io::Result<()> {
+    match opened(&Folder::read(rt)) {
+        Ok(run) => serve(rt, input, run),
+        Err(refusal) => refuse(rt, refusal),
     }
-    let mut out = [0u8; 16];
-    let n = wording::open_line(answer, &mut out);
-    io::write_all(STDOUT, &out[..n]);
 }
 
+// Where the output fails, the rest is left out and nothing is told.
 fn main(rt: HostRuntime) {
     let mut input = rt.stdin();
-    coordinate(&rt, &mut input);
+    let _ = coordinate(&rt, &mut input);
 }

@@ -1,112 +1,72 @@
 // An accepted list in the text form: head, footprints, sheets; then its jobs, as comments.
 ghost use Rattle.std.specs.Prelude.{◌<◌};
 
-use crate::words::{say, say_instruction, say_line, say_with};
+use crate::words::{Access, Form};
 use finding::{job_of, last_of};
 use listing::{body_count, body_size, footprint_count, footprint_size, instruction_at, line_at};
+use std::io;
 use tasklist::Tables;
 
 // A footprint, its lines behind commas.
-fn print_footprint(tables: Tables, f: usize) {
-    say_with(b"footprint ", f);
-    say(b":");
+fn print_footprint(rt: &impl Print, tables: Tables, f: usize) -> io::Result<()> {
+    print!(rt; "footprint {f}:")?;
     let size = footprint_size(tables, f);
     if size == 0 {
-        say(b" none");
+        return println!(rt; " none");
     }
-    let mut j = 0;
-    while j < size {
-        if 0 < j {
-            say(b",");
-        }
-        say_line(line_at(tables, f, j));
-        j += 1;
+    for j in 0..size {
+        let comma = if j == 0 { "" } else { "," };
+        print!(rt; "{comma} {}", Access(line_at(tables, f, j)))?;
     }
-    say(b"\n");
+    println!(rt)
 }
 
 // A body, an instruction on each line behind its place.
-fn print_body(tables: Tables, s: usize) {
-    say_with(b"sheet ", s);
-    say(b":\n");
-    let size = body_size(tables, s);
-    let mut i = 0;
-    while i < size {
-        say_with(b"    ", i);
-        say(b": ");
-        say_instruction(instruction_at(tables, s, i));
-        say(b"\n");
-        i += 1;
+fn print_body(rt: &impl Print, tables: Tables, s: usize) -> io::Result<()> {
+    println!(rt; "sheet {s}:")?;
+    for i in 0..body_size(tables, s) {
+        println!(rt; "    {i}: {}", Form(instruction_at(tables, s, i)))?;
     }
-}
-
-fn indent(depth: usize) {
-    let mut i = 0;
-    while i < depth {
-        say(b"  ");
-        i += 1;
-    }
+    Ok(())
 }
 
 // The task of a number: its block, and what makes it.
-fn print_job(tables: Tables, n: usize)
+fn print_job(rt: &impl Print, tables: Tables, n: usize) -> io::Result<()>
     requires { n < 128 }
 {
     let job = job_of(tables, n);
-    say(b"# ");
-    indent(job.depth);
-    say_with(b"job ", n);
-    say_with(b" (block ", n);
-    say_with(b" to ", last_of(tables, n, job.body));
-    say_with(b"): sheet ", job.body);
+    print!(rt; "# ")?;
+    for _ in 0..job.depth {
+        print!(rt; "  ")?;
+    }
+    let last = last_of(tables, n, job.body);
+    print!(rt; "job {n} (block {n} to {last}): sheet {}", job.body)?;
     if job.depth == 0 {
-        say(b", writes every entry\n");
-        return;
+        return println!(rt; ", writes every entry");
     }
-    say_with(b", footprint ", job.footprint);
-    say_with(b", made by job ", job.spawner);
-    say_with(b" at place ", job.place);
+    print!(rt;
+        ", footprint {}, made by job {} at place {}",
+        job.footprint, job.spawner, job.place
+    )?;
     if 0 < job.children {
-        say_with(b", child ", job.child);
+        print!(rt; ", child {}", job.child)?;
     }
-    say(b"\n");
+    println!(rt)
 }
 
-fn print_footprints(tables: Tables) {
-    let count = footprint_count(tables);
-    let mut f = 0;
-    while f < count {
-        print_footprint(tables, f);
-        f += 1;
+// The whole list.
+pub fn print_list(rt: &impl Print, tables: Tables) -> io::Result<()> {
+    println!(rt; "entries {}", tables.locations)?;
+    for f in 0..footprint_count(tables) {
+        print_footprint(rt, tables, f)?;
     }
-}
-
-fn print_bodies(tables: Tables) {
-    let count = body_count(tables);
-    let mut s = 0;
-    while s < count {
-        print_body(tables, s);
-        s += 1;
+    for s in 0..body_count(tables) {
+        print_body(rt, tables, s)?;
     }
-}
-
-fn print_jobs(tables: Tables, count: usize) {
-    let mut n = 0;
-    while n < count {
-        if n < 128 {
-            print_job(tables, n);
-        }
-        n += 1;
+    let count = tables.counts[0];
+    println!(rt; "# jobs that can be made: {count}")?;
+    for n in 0..usize::from(count).min(128) {
+        print_job(rt, tables, n)?;
     }
-}
-
-// The whole list, of `count` tasks.
-pub fn print_list(tables: Tables, count: u8) {
-    say_with(b"entries ", tables.locations as usize);
-    say(b"\n");
-    print_footprints(tables);
-    print_bodies(tables);
-    say_with(b"# jobs that can be made: ", count as usize);
-    say(b"\n");
-    print_jobs(tables, count as usize);
+    Ok(())
 }

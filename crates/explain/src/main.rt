@@ -3,11 +3,10 @@
 // the list layer alone.
 #![tactic(auto)]
 
-use host_files::{LIST_ROOM, fill};
+use host_files::{LIST_ROOM, fill, open_named};
 use std::env::{Env, FillError};
-use std::fs::{File, Files};
-use std::io::Read;
-use tasklist::Checked;
+use std::fs::Files;
+use std::io::{self, Read};
 
 mod list;
 mod refused;
@@ -15,87 +14,57 @@ mod words;
 
 use list::print_list;
 use refused::print_refused;
-use words::say;
+
+const USAGE: &str = "usage: explain FILE..
+Prints each job list in the text form that tools/assemble reads, with the jobs that it can make as comments;
+for a refused list, the refusal and the byte.";
 
 // Prints what a file's bytes hold.
-fn explain(bytes: &[u8]) {
-    let reading = reader::read(bytes);
-    let answer = reading.answer;
-    let tables = reading.tables;
-    match answer {
-        Checked::Count(n) => print_list(tables, n),
-        Checked::Refused(refusal) => print_refused(bytes, tasklist::refusal_number(refusal)),
+fn explain(rt: &impl Print, bytes: &[u8]) -> io::Result<()> {
+    match reader::read(bytes) {
+        Ok(tables) => print_list(rt, tables),
+        Err(refusal) => print_refused(rt, bytes, refusal),
     }
 }
 
 // Explains a file that is open. The buffer holds one byte more than the longest list, so that bytes left over show. A
 // short count is the file's end only if reading on gives no error.
-fn explain_open<F: Read>(file: &mut F) {
+fn explain_open<F: Read>(rt: &impl Print, file: &mut F) -> io::Result<()> {
     let mut bytes = [0u8; LIST_ROOM];
     let n = fill(file, &mut bytes);
-    let mut more = [0u8; 1];
-    match file.read(&mut more) {
-        Err(_) => say(b"this file can't be read\n"),
-        Ok(_) => explain(&bytes[..n]),
+    match file.read(&mut [0]) {
+        Ok(_) => explain(rt, &bytes[..n]),
+        Err(_) => println!(rt; "this file can't be read"),
     }
 }
 
 // Explains the file of a name.
-fn explain_file<R: Files>(rt: &R, name: &[u8]) {
-    say(b"# ");
-    say(name);
-    say(b"\n");
-    match str::from_utf8(name) {
-        Err(_) => say(b"this file can't be opened\n"),
-        Ok(path) => match File::open(rt, path) {
-            Err(_) => say(b"this file can't be opened\n"),
-            Ok(mut file) => explain_open(&mut file),
-        },
+fn explain_file<R: Files + Print>(rt: &R, name: &[u8]) -> io::Result<()> {
+    print!(rt; "# ")?;
+    rt.write_all(name)?;
+    println!(rt)?;
+    match open_named(rt, name) {
+        Some(mut file) => explain_open(rt, &mut file),
+        None => println!(rt; "this file can't be opened"),
     }
 }
 
-// Whether an argument is --help.
-fn is_help(name: &[u8]) -> bool {
-    if name.len() != 6 {
-        return false;
-    }
-    let help = b"--help";
-    let mut i = 0;
-    while i < 6 {
-        if name[i] != help[i] {
-            return false;
-        }
-        i += 1;
-    }
-    true
-}
-
-fn usage() {
-    say(b"usage: explain FILE..\n");
-    say(
-        b"Prints each job list in the text form that tools/assemble reads, with the jobs that it can make as comments;\n",
-    );
-    say(b"for a refused list, the refusal and the byte.\n");
-}
-
-fn main(rt: HostRuntime) {
+// Explains the files that the arguments name. `--help` is no name.
+fn run<R: Env + Files + Print>(rt: &R) -> io::Result<()> {
     for i in 1..usize::MAX {
-        let mut name = io::buffer();
+        let mut name = [0u8; 4096];
         match rt.arg(i, &mut name) {
-            Ok(n) => {
-                if is_help(&name[..n]) {
-                    usage();
-                } else {
-                    explain_file(&rt, &name[..n]);
-                }
-            }
-            Err(FillError::TooLong) => say(b"this file can't be opened\n"),
-            Err(FillError::NotPresent) => {
-                if i == 1 {
-                    usage();
-                }
-                break;
-            }
+            Ok(n) if &name[..n] == b"--help".as_slice() => rt.println(USAGE)?,
+            Ok(n) => explain_file(rt, &name[..n])?,
+            Err(FillError::TooLong) => println!(rt; "this file can't be opened")?,
+            Err(FillError::NotPresent) if i == 1 => return rt.println(USAGE),
+            Err(FillError::NotPresent) => return Ok(()),
         }
     }
+    Ok(())
+}
+
+// Where the output fails, the rest is left out and nothing is told.
+fn main(rt: HostRuntime) {
+    let _ = run(&rt);
 }

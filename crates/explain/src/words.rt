@@ -1,131 +1,72 @@
-// Words, numbers and instructions on standard output.
+// Instructions and lines of footprints in the text form.
+use std::fmt;
 use tasklist::{Instruction, Line};
 
-// Standard output's number.
-const STDOUT: i32 = 1;
+#[derive(Clone, Copy)]
+pub struct Form(pub Instruction);
 
-pub fn say(text: &[u8]) {
-    io::write_all(STDOUT, text);
-}
-
-pub fn say_number(n: usize) {
-    io::print_decimal(STDOUT, n as u64);
-}
-
-// A word and a number behind it.
-pub fn say_with(text: &[u8], n: usize) {
-    say(text);
-    say_number(n);
-}
-
-fn say_byte(text: &[u8], n: u8) {
-    say_with(text, n as usize);
-}
-
-// R1 := R2 + R3, with the sign between the two.
-fn say_three(target: u8, left: u8, sign: &[u8], right: u8) {
-    say_byte(b"R", target);
-    say_byte(b" := R", left);
-    say(sign);
-    say_byte(b"R", right);
-}
-
-// An instruction in the text form.
-pub fn say_instruction(instruction: Instruction) {
-    match instruction {
-        Instruction::Const { target, value } => {
-            say_byte(b"const R", target);
-            say_with(b" := ", value as usize);
-        }
-        Instruction::Add {
-            target,
-            left,
-            right,
-        } => {
-            say(b"add ");
-            say_three(target, left, b" + ", right);
-        }
-        Instruction::Sub {
-            target,
-            left,
-            right,
-        } => {
-            say(b"sub ");
-            say_three(target, left, b" - ", right);
-        }
-        Instruction::Less {
-            target,
-            left,
-            right,
-        } => {
-            say(b"less ");
-            say_three(target, left, b" < ", right);
-        }
-        Instruction::Load { target, place } => {
-            say_byte(b"load R", target);
-            say_byte(b" := entry R", place);
-        }
-        Instruction::Store { place, source } => {
-            say_byte(b"store entry R", place);
-            say_byte(b" := R", source);
-        }
-        Instruction::Skip { test, length } => {
-            say_byte(b"skip ", length);
-            say_byte(b" if R", test);
-            say(b" = 0");
-        }
-        Instruction::Spawn { body, footprint } => {
-            say_byte(b"spawn sheet ", body);
-            say_byte(b" with footprint ", footprint);
-        }
-        Instruction::Wait { place } => {
-            say_byte(b"wait entry R", place);
-        }
-        Instruction::Fan {
-            body,
-            footprint,
-            children,
-        } => {
-            say_byte(b"fan sheet ", body);
-            say_byte(b" with footprint ", footprint);
-            say_byte(b", ", children);
-            say(b" children");
-        }
-        Instruction::Sum { place, source } => {
-            say_byte(b"sum entry R", place);
-            say_byte(b" + R", source);
-        }
-        Instruction::Mul {
-            target,
-            left,
-            right,
-        } => {
-            say(b"mul ");
-            say_three(target, left, b" * ", right);
-            say(b" / 1000");
-        }
-        Instruction::Div {
-            target,
-            left,
-            right,
-        } => {
-            say_byte(b"div R", target);
-            say_byte(b" := 1000 * R", left);
-            say_byte(b" / R", right);
+impl fmt::Display for Form {
+    fn fmt<W: fmt::Write>(&self, f: &mut fmt::Formatter<W>) -> fmt::Result {
+        match self.0 {
+            Instruction::Const { target, value } => write!(f, "const R{target} := {value}"),
+            Instruction::Add {
+                target,
+                left,
+                right,
+            } => write!(f, "add R{target} := R{left} + R{right}"),
+            Instruction::Sub {
+                target,
+                left,
+                right,
+            } => write!(f, "sub R{target} := R{left} - R{right}"),
+            Instruction::Less {
+                target,
+                left,
+                right,
+            } => write!(f, "less R{target} := R{left} < R{right}"),
+            Instruction::Load { target, place } => write!(f, "load R{target} := entry R{place}"),
+            Instruction::Store { place, source } => write!(f, "store entry R{place} := R{source}"),
+            Instruction::Skip { test, length } => write!(f, "skip {length} if R{test} = 0"),
+            Instruction::Spawn { body, footprint } => {
+                write!(f, "spawn sheet {body} with footprint {footprint}")
+            }
+            Instruction::Wait { place } => write!(f, "wait entry R{place}"),
+            Instruction::Fan {
+                body,
+                footprint,
+                children,
+            } => write!(
+                f,
+                "fan sheet {body} with footprint {footprint}, {children} children"
+            ),
+            Instruction::Sum { place, source } => write!(f, "sum entry R{place} + R{source}"),
+            Instruction::Mul {
+                target,
+                left,
+                right,
+            } => write!(f, "mul R{target} := R{left} * R{right} / 1000"),
+            Instruction::Div {
+                target,
+                left,
+                right,
+            } => write!(f, "div R{target} := 1000 * R{left} / R{right}"),
         }
     }
 }
 
-// A line of a footprint in the text form.
-pub fn say_line(line: Line) {
-    let kind = line.kind;
-    let value = line.value;
-    match kind {
-        0 => say_byte(b" read entry ", value),
-        1 => say_byte(b" write entry ", value),
-        2 => say_byte(b" read entry R", value),
-        3 => say_byte(b" write entry R", value),
-        4 => say_byte(b" sum entry ", value),
-        _ => say_byte(b" sum entry R", value),
+#[derive(Clone, Copy)]
+pub struct Access(pub Line);
+
+impl fmt::Display for Access {
+    fn fmt<W: fmt::Write>(&self, f: &mut fmt::Formatter<W>) -> fmt::Result {
+        let value = self.0.value;
+        match self.0.kind {
+            0 => write!(f, "read entry {value}"),
+            1 => write!(f, "write entry {value}"),
+            2 => write!(f, "read entry R{value}"),
+            3 => write!(f, "write entry R{value}"),
+            4 => write!(f, "sum entry {value}"),
+            _ => write!(f, "sum entry R{value}"),
+        }
     }
 }

@@ -15,7 +15,7 @@ use Rattle.tasklist.specs.declared.Tables.{Tables}
 use Rattle.tasklist.specs.TaskList.{body_of, instruction_of, blank_instruction, total, adds}
 use Rattle.tasklist.specs.Tables.{list_of}
 use Rattle.finding.specs.declared.Job.{Job}
-use Rattle.finding.specs.Jobs.{first_job, number_at, fanned, made, place_of, holder, down, numbered}
+use Rattle.finding.specs.Jobs.{first_job, number_at, made, place_of, holder, down, numbered}
 use Rattle.finding.proofs.FirstLaws.{Failed, failed_none, failed_next, failed_passes, failed_all}
 
 -- a sum with one item more
@@ -46,33 +46,6 @@ child_block n k c w some low high =
       low = omega (arith, parts);
       high = omega (arith, parts, rest);
       fits = omega (arith, above, suc-mul (m / w) w);
-    }
-
--- the child in the terms of the code: w numbers to a block, i blocks ahead
-pub fanned_is : (t : Tables) (k : ℕ) (j : Job) (w i : ℕ) → w ≡ get_or t.counts j.body 1 → i ≡ (k - j.number) / w
-    → record {
-      number = j.number + i * w;
-      body = j.body;
-      footprint = j.footprint;
-      spawner = j.spawner;
-      place = j.place;
-      child = i;
-      children = j.children;
-      depth = j.depth;
-    } ≡ fanned t k j
-unfolding fanned
-fanned_is t k j w i p q =
-    let e : i ≡ (k - j.number) / get_or t.counts j.body 1 = q ∙ ap (λ (m : ℕ). (k - j.number) / m) p in
-    λ z.
-    record {
-      number = j.number + e z * p z;
-      body = j.body;
-      footprint = j.footprint;
-      spawner = j.spawner;
-      place = j.place;
-      child = e z;
-      children = j.children;
-      depth = j.depth;
     }
 
 -- the children of one task, of which the first i instructions end their blocks at k or below

@@ -5,7 +5,7 @@ use Prim.Native.Nat.{ℕ, zero, suc, ◌+◌, ◌≤◌, ◌<◌}
 use mathlib.Core.Path.{◌≡◌, refl, sym, ap, ◌∙◌, subst}
 use mathlib.Core.List.{List, [], ◌∷◌, ◌++◌}
 use mathlib.Core.Bool.{Bool, true, false, cond, not}
-use mathlib.Core.Option.{Option, none, some}
+use Rattle.std.specs.Prelude.{Option, Some, None}
 use mathlib.Core.Logic.{◌⊎◌, inl, inr}
 use native.Mathlib.Omega.{arith}
 use native.Mathlib.Nat.{zero-add}
@@ -40,8 +40,8 @@ and_then_stable : {A B : Type 0} (p : List ℕ → Taken A) (next : A → List �
 and_then_stable p next first second b c = both_longer next second c (p b) (p (b ++ c)) (first b c)
 
 tested_longer : {A : Type 0} (k : ℕ) (rest c : List ℕ) (o : Option A) → Longer c (tested k rest o) (tested k (rest ++ c) o)
-tested_longer k rest c none = λ other. refl
-tested_longer k rest c (some a) = refl
+tested_longer k rest c None = λ other. refl
+tested_longer k rest c (Some a) = refl
 
 field_look : {A : Type 0} (n k : ℕ) (test : List ℕ → Option A) (b c : List ℕ) (t : Bool) → leb n (length b) ≡ t
     → Longer c (cond t (tested k (drop n b) (test (take n b))) (bad 1)) (field n k test (b ++ c))

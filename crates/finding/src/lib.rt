@@ -4,7 +4,7 @@
 // A task (document 01: job) that a list can make: its number, body (sheet) and footprint, and the task and place that
 // make it; `child` is its number among the `children` of a fan, which are 0 for a spawn; `depth` is how many tasks stand
 // above it. The first task is made by none.
-#[derive(Clone, Copy)]
+#[derive(Clone, Copy, Debug, Default, PartialEq, Eq)]
 pub struct Job {
     pub number: usize,
     pub body: usize,

@@ -1,3 +1,3 @@
 -- Laws that the proofs of the functions cite.
-pub mod StateLaws
+pub mod WeightLaws
 pub mod OpenLaws

@@ -1,21 +1,19 @@
 -- What open's parts come to. Assumes nothing.
-use Prim.Native.Nat.{ℕ, zero, suc, ◌+◌, ◌-◌, ◌*◌, ◌^◌, ◌≤◌, ◌<◌}
+use Rattle.std.specs.Prelude.{Result, Ok, Err, IsErrAnd}
+use Prim.Native.Nat.{ℕ, suc, ◌+◌, ◌-◌, ◌*◌, ◌^◌, ◌≤◌, ◌<◌}
 use mathlib.Core.Path.{◌≡◌, refl, sym, ap, subst, ◌∙◌}
-use mathlib.Core.List.{List, [], ◌∷◌, ◌++◌}
-use mathlib.Core.Bool.{Bool, true, false, ◌&&◌}
+use mathlib.Core.List.{List, ◌∷◌, ◌++◌}
+use mathlib.Core.Bool.{true, false}
 use native.Mathlib.Omega.{arith}
-use native.Mathlib.Nat.{zero-add, suc-add}
-use native.Mathlib.Numerals.{add-one}
 use lib.ListN.{length, take, drop, get_or, replicate, length-append, length-replicate}
-use lib.Seq.{take-append-add, drop-append-add, drop-cons}
+use Rattle.std.proofs.lemmas.List.{take-replicate, drop-replicate}
+use lib.Seq.{take-append-add, drop-append-add}
 use borrow.Author.Tests.{eq-eqb, ne_eqb}
 use Rattle.tasklist.specs.declared.Tables.{Tables}
-use Rattle.tasklist.specs.declared.Reading.{Reading}
 use Rattle.tasklist.specs.declared.Refusal.{Refusal}
-use Rattle.tasklist.specs.declared.Checked.TheVariants.{Count, Refused}
 use Rattle.tasklist.specs.Decode.{Decoded, refused, accepted, decode}
 use Rattle.tasklist.specs.Tables.{Holds, list_of}
-use Rattle.tasklist.specs.Answers.{refuses, gives, refusal_number, checked, check_answer, Tabled, ReadAs}
+use Rattle.tasklist.specs.Answers.{refusal_number, ReadAs}
 use Rattle.tasklist.proofs.Guarantees.{accepted_list}
 use Rattle.semantics.specs.Run.{Task, Context, context, weight_places, is_weight, no_modes, never, root_modes, root, initial}
 use Rattle.semantics.specs.Run as Semantics
@@ -27,42 +25,35 @@ use Rattle.semantics.specs.Sound.{Sound}
 use Rattle.semantics.proofs.SoundInitial.{initial_sound}
 use Rattle.arrays.specs.Rows.{row}
 use Rattle.runtime.specs.declared.Run.{Run}
-use Rattle.runtime.specs.declared.Opened.{Opened}
-use Rattle.runtime.specs.declared.OpenAnswer.{OpenAnswer}
-use Rattle.runtime.specs.declared.OpenAnswer.TheVariants as Opening
+use Rattle.runtime.specs.declared.OpenRefusal.{OpenRefusal}
+use Rattle.runtime.specs.declared.OpenRefusal.TheVariants as Opening
 use Rattle.plans.specs.View.{tasks_from, blank_record, model as parts_model}
-use Rattle.runtime.specs.View.{model, SoundRun, blank_run}
+use Rattle.runtime.specs.View.{model, SoundRun}
 use Rattle.runtime.specs.Parts.{InitialOf}
 use Rattle.runtime.specs.Asked.{open_number, OpenedAs}
 use Rattle.plans.proofs.ViewLaws.{same_run, tasks_never}
 use Rattle.records.specs.Records.{with_state}
-
--- "as check": the list is refused
-refused_with :
-    {A : Type 0} (k : ℕ) (d : Decoded) (numbers weights : List ℕ) (f : Context → A) → refuses k ≡ check_answer d
-    → with_list d numbers weights f ≡ denies k
-unfolding with_list
-refused_with k (refused j) numbers weights f e = let q : j ≡ k = cc in ap denies q
-refused_with k (accepted l) numbers weights f e = let z : ◌≡◌ {A = ℕ} 0 1 = cc in let bad : ⊥ = omega arith in absurd bad
-
-pub open_refused :
-    (bytes numbers weights : List ℕ) (k : ℕ) → refuses k ≡ check_answer (decode bytes) → open_asked bytes numbers weights ≡ denies k
-unfolding open_asked
-open_refused bytes numbers weights k e = refused_with k (decode bytes) numbers weights (λ c. initial c numbers) e
 
 -- the tables of an accepted list
 pub record Listed (bytes : List ℕ) (t : Tables) : Type 0 where
   pub list : decode bytes ≡ accepted (list_of t)
   pub holds : Holds t (list_of t)
 
-pub listed :
-    (bytes : List ℕ) (t : Tables) (n : ℕ) → gives n ≡ check_answer (decode bytes) → Tabled (decode bytes) t → Listed bytes t
-listed bytes t n e h = by_list (decode bytes) refl e h
+pub listed : (bytes : List ℕ) (t : Tables) → ReadAs (decode bytes) (Ok t) → Listed bytes t
+listed bytes t h = by_list (decode bytes) refl h
   where
-    by_list : (d : Decoded) → decode bytes ≡ d → gives n ≡ check_answer d → Tabled d t → Listed bytes t
-    by_list (refused k) q e h = let z : ◌≡◌ {A = ℕ} 0 1 = cc in let bad : ⊥ = omega arith in absurd bad
-    by_list (accepted l) q e h =
-        record { list = q ∙ ap accepted (sym h.list); holds = subst (Holds t) (sym h.list) h }
+    by_list : (d : Decoded) → decode bytes ≡ d → ReadAs d (Ok t) → Listed bytes t
+    by_list (refused k) q h = elim h [ ]
+    by_list (accepted l) q h =
+        record { list = q ∙ ap accepted (sym h.holds.list); holds = subst (Holds t) (sym h.holds.list) h.holds }
+
+-- "as check": the list is refused
+pub unlisted : (bytes : List ℕ) (k : Refusal) → ReadAs (decode bytes) (Err k) → decode bytes ≡ refused (refusal_number k)
+unlisted bytes k h = by_list (decode bytes) refl h
+  where
+    by_list : (d : Decoded) → decode bytes ≡ d → ReadAs d (Err k) → decode bytes ≡ refused (refusal_number k)
+    by_list (refused j) q h = q ∙ ap refused (sym h)
+    by_list (accepted l) q h = elim h [ ]
 
 module _ (bytes : List ℕ) (t : Tables) (l : Listed bytes t) where
   pub few_locations : t.locations ≤ 64
@@ -101,41 +92,6 @@ module _ {A : Type 0} (weights : List ℕ) (a : A) where
     unfolding with_weights weight_places
     table_good h = rw (eq-eqb (length weights) 15 whole, h) refl
 
--- one number of the table is tested
-pub every_more :
-    (ws : List ℕ) (i : ℕ) → i < length ws → is_weight (get_or ws i 0) ≡ true → every is_weight ws ≡ every is_weight (drop i ws)
-    → every is_weight ws ≡ every is_weight (drop (i + 1) ws)
-unfolding every
-every_more ws i h ok e =
-    e ∙ ap (every is_weight) (drop-cons ws i 0 h) ∙ ap (λ b. b && every is_weight (drop (suc i) ws)) ok
-    ∙ ap (λ k. every is_weight (drop k ws)) (sym (add-one i))
-
-pub every_stops :
-    (ws : List ℕ) (i : ℕ) → i < length ws → is_weight (get_or ws i 0) ≡ false → every is_weight ws ≡ every is_weight (drop i ws)
-    → every is_weight ws ≡ false
-unfolding every
-every_stops ws i h bad e =
-    e ∙ ap (every is_weight) (drop-cons ws i 0 h) ∙ ap (λ b. b && every is_weight (drop (suc i) ws)) bad
-
-drop_past : (n : ℕ) (l : List ℕ) → length l ≤ n → drop n l ≡ []
-drop_past zero [] h = refl
-drop_past zero (x ∷ xs) h = let z : ⊥ = omega (arith, h) in absurd z
-drop_past (suc n) [] h = refl
-drop_past (suc n) (x ∷ xs) h = drop_past n xs (omega arith)
-
-pub every_ends : (ws : List ℕ) (i : ℕ) → length ws ≤ i → every is_weight ws ≡ every is_weight (drop i ws) → every is_weight ws ≡ true
-unfolding every
-every_ends ws i h e = e ∙ ap (every is_weight) (drop_past i ws h)
-
-take_replicate : (k n x : ℕ) → k ≤ n → take k (replicate n x) ≡ replicate k x
-take_replicate zero n x h = refl
-take_replicate (suc k) zero x h = let z : ⊥ = omega arith in absurd z
-take_replicate (suc k) (suc n) x h = ap (λ l. x ∷ l) (take_replicate k n x (omega arith))
-
-drop_replicate : (m k x : ℕ) → drop m (replicate (m + k) x) ≡ replicate k x
-drop_replicate zero k x = ap (λ n. replicate n x) (zero-add k)
-drop_replicate (suc m) k x = rw (suc-add m k) (drop_replicate m k x)
-
 -- the modes of a fresh run: task 0 writes the first `c` locations
 module _ (c : ℕ) (few : c ≤ 64) where
   abbrev fresh_modes : List ℕ
@@ -147,20 +103,17 @@ module _ (c : ℕ) (few : c ≤ 64) where
       let q : 64 ≡ length (replicate {A = ℕ} c 2) + (64 - c) = omega (arith, length-replicate {A = ℕ} c 2) in
       ap (λ k. take k fresh_modes) q
       ∙ take-append-add (replicate c 2) (replicate (8192 - c) 0) (64 - c)
-      ∙ ap (λ l. replicate c 2 ++ l) (take_replicate (64 - c) (8192 - c) 0 (omega arith))
+      ∙ ap (λ l. replicate c 2 ++ l) (take-replicate {X = ℕ} (64 - c) (8192 - c) 0 (omega arith))
 
   other_row : (j : ℕ) → 1 ≤ j → j < 128 → row j fresh_modes ≡ no_modes
   unfolding row no_modes
   other_row j h b =
       let m = 64 * j - c in
-      let k = 8192 - 64 * j in
       let q : 64 * j ≡ length (replicate {A = ℕ} c 2) + m = omega (arith, length-replicate {A = ℕ} c 2) in
-      let p : 8192 - c ≡ m + k = omega arith in
       ap (λ x. take 64 (drop x fresh_modes)) q
       ∙ ap (take 64) (drop-append-add (replicate c 2) (replicate (8192 - c) 0) m)
-      ∙ ap (λ x. take 64 (drop m (replicate x 0))) p
-      ∙ ap (take 64) (drop_replicate m k 0)
-      ∙ take_replicate 64 k 0 (omega arith)
+      ∙ ap (take 64) (drop-replicate {X = ℕ} m (8192 - c) 0)
+      ∙ take-replicate {X = ℕ} 64 (8192 - c - m) 0 (omega arith)
 
 -- "A fresh run is what open gives when it accepts"
 module _
@@ -228,64 +181,52 @@ module _
     opened_list = l.list ∙ ap (λ x. accepted (list_of x)) (sym i.tables)
 
 -- open's answers
-module _ (bytes numbers weights : List ℕ) (reading : Reading) (read : ReadAs (decode bytes) reading) where
-  abbrev Answers : Opened → Type 0
+module _ (bytes numbers weights : List ℕ) where
+  abbrev Answers : Result Run OpenRefusal → Type 0
   Answers r = OpenedAs bytes weights (open_asked bytes numbers weights) r
 
-  -- a refusal, and the blank run
-  denied :
-      (k : ℕ) (a : OpenAnswer) → open_number a ≡ k → open_asked bytes numbers weights ≡ denies k → (r : Opened)
-      → (r.answer ≡ a) × (r.run ≡ blank_run) → Answers r
-  denied k a q e r h =
-      subst (λ x. OpenedAs bytes weights x r) (sym e) (record { answer = ap open_number h.0 ∙ q; run = h.1 })
+  denied : (k : OpenRefusal) → open_asked bytes numbers weights ≡ denies (open_number k) → Answers (Err k)
+  denied k e = subst (λ x. OpenedAs bytes weights x (Err k)) (sym e) refl
 
   pub answers_refused :
-      (k : Refusal) → reading.answer ≡ Refused k → (r : Opened) → (r.answer ≡ Opening.Refused k) × (r.run ≡ blank_run) → Answers r
-  answers_refused k e r h =
-      denied (refusal_number k) (Opening.Refused k) (unfold open_number in refl)
-      (open_refused bytes numbers weights (refusal_number k) (sym (ap checked e) ∙ read.answer)) r h
+      (k : Refusal) → ReadAs (decode bytes) (Err k) → (given : Result Run OpenRefusal) → IsErrAnd given (λ e. e ≡ Opening.List k)
+      → Answers given
+  unfolding open_number open_asked with_list
+  answers_refused k h (Ok _) q = elim q [ ]
+  answers_refused k h (Err e) q =
+      subst (λ e. Answers (Err e)) (sym q)
+      (denied (Opening.List k) (ap (λ d. with_list d numbers weights (λ c. initial c numbers)) (unlisted bytes k h)))
 
-  module _ (n : ℕ) (counted : reading.answer ≡ Count n) where
-    pub read_list : Listed bytes reading.tables
-    read_list = listed bytes reading.tables n (sym (ap checked counted) ∙ read.answer) read.tables
+  module _ (t : Tables) (l : Listed bytes t) where
+    pub answers_unfit : (length numbers ≡ t.locations → ⊥) → Answers (Err Opening.Length)
+    unfolding open_number
+    answers_unfit u = denied Opening.Length (open_unfit bytes t l numbers weights u)
 
-    pub answers_unfit :
-        (length numbers ≡ reading.tables.locations → ⊥) → (r : Opened) → (r.answer ≡ Opening.Length) × (r.run ≡ blank_run)
-        → Answers r
-    answers_unfit u r h =
-        denied 8 Opening.Length (unfold open_number in refl) (open_unfit bytes reading.tables read_list numbers weights u) r h
-
-    module _ (fits : length numbers ≡ reading.tables.locations) where
+    module _ (fits : length numbers ≡ t.locations) where
       abbrev fresh : Semantics.Run
-      fresh = initial (context (list_of reading.tables) weights) numbers
+      fresh = initial (context (list_of t) weights) numbers
 
       asked : open_asked bytes numbers weights ≡ with_weights weights fresh
-      asked = open_fit bytes reading.tables read_list numbers weights fits
+      asked = open_fit bytes t l numbers weights fits
 
-      pub answers_table :
-          (length weights ≡ 15 → ⊥) → (r : Opened) → (r.answer ≡ Opening.Table) × (r.run ≡ blank_run) → Answers r
-      answers_table u r h =
-          denied 21 Opening.Table (unfold open_number in refl) (asked ∙ table_short weights fresh u) r h
+      pub answers_table : (length weights ≡ 15 → ⊥) → Answers (Err Opening.Table)
+      unfolding open_number
+      answers_table u = denied Opening.Table (asked ∙ table_short weights fresh u)
 
-      module _ (whole : length weights ≡ 15) (b : Bool) (tested : b ≡ every is_weight weights) where
-        pub answers_weight : b ≡ false → (r : Opened) → (r.answer ≡ Opening.Weight) × (r.run ≡ blank_run) → Answers r
-        answers_weight q r h =
-            denied 22 Opening.Weight (unfold open_number in refl) (asked ∙ table_bad weights fresh whole (sym tested ∙ q)) r h
+      module _ (whole : length weights ≡ 15) where
+        pub answers_weight : every is_weight weights ≡ false → Answers (Err Opening.Weight)
+        unfolding open_number
+        answers_weight bad = denied Opening.Weight (asked ∙ table_bad weights fresh whole bad)
 
         pub answers_open :
-            b ≡ true → ((a : ℕ) → get_or numbers a 0 < 2 ^ 32) → (table : List ℕ) → table ≡ weights
-            → (r : Run) → InitialOf reading.tables numbers table r
-            → Answers (record { answer = Opening.Accepted; run = r })
-        unfolding open_number
-        answers_open q small table same r i' =
-            let i = subst (λ ws. InitialOf reading.tables numbers ws r) same i' in
-            let ok : WeightsAccepted weights = record { size = whole ∙ (unfold weight_places in refl); each = sym tested ∙ q } in
-            subst (λ a. OpenedAs bytes weights a (record { answer = Opening.Accepted; run = r }))
-            (sym (asked ∙ table_good weights fresh whole (sym tested ∙ q)))
+            every is_weight weights ≡ true → ((a : ℕ) → get_or numbers a 0 < 2 ^ 32) → (r : Run) → InitialOf t numbers weights r
+            → Answers (Ok r)
+        answers_open good small r i =
+            let ok : WeightsAccepted weights = record { size = whole ∙ (unfold weight_places in refl); each = good } in
+            subst (λ a. OpenedAs bytes weights a (Ok r)) (sym (asked ∙ table_good weights fresh whole good))
             (record {
-              answer = refl;
-              run = opened_model bytes reading.tables read_list numbers fits small weights ok r i;
-              list = opened_list bytes reading.tables read_list numbers fits small weights ok r i;
+              run = opened_model bytes t l numbers fits small weights ok r i;
+              list = opened_list bytes t l numbers fits small weights ok r i;
               table = i.table;
-              sound = opened_sound bytes reading.tables read_list numbers fits small weights ok r i;
+              sound = opened_sound bytes t l numbers fits small weights ok r i;
             })

@@ -1,4 +1,4 @@
-// The fresh run (document 01): what open gives of a job list and a library, and the blank run of a refused open. Stands above
+// The fresh run (document 01): what open gives of a job list and a library. Stands above
 // the runtime, whose runs they are.
 #![tactic(auto)]
 

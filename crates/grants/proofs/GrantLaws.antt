@@ -1,22 +1,80 @@
 -- Laws of a footprint's modes: the model's faults by their numbers, and its lines one by one. Assumes nothing.
-use Prim.Native.Nat.{ℕ, zero, suc, ◌+◌, ◌≤◌, ◌<◌}
+use Prim.Native.Nat.{ℕ, zero, suc, ◌+◌, ◌*◌, ◌-◌, min, ◌≤◌, ◌<◌}
 use mathlib.Core.Path.{◌≡◌, refl, sym, ap, ◌∙◌}
 use mathlib.Core.List.{List, [], ◌∷◌, ◌++◌}
 use mathlib.Core.Logic.{◌≢◌}
 use native.Mathlib.Omega.{arith}
 use native.Mathlib.Numerals.{add-one}
-use lib.ListN.{length, drop, get_or, set, drop_of_length-le, get_or-eq_default}
+use lib.ListN.{length, take, drop, get_or, set, drop_of_length-le}
 use lib.Seq.{drop-cons}
 use borrow.Author.Tests.{eq-eqb, ne_eqb}
+use Rattle.std.specs.Prelude.{slice_range}
+use Rattle.std.proofs.lemmas.List.{take_min}
 use Rattle.tasklist.specs.declared.Line.{Line}
+use Rattle.tasklist.specs.declared.Tables.{Tables}
+use Rattle.tasklist.specs.TaskList.{footprint_of}
+use Rattle.tasklist.specs.Tables.{list_of}
+use Rattle.tasklist.proofs.PlaceLaws.{rows_at}
 use Rattle.tasklist.specs.Accepted.{blank_line}
 use Rattle.semantics.specs.Run.{Task, no_modes}
 use Rattle.semantics.specs.Access.{Access, access_fault}
 use Rattle.semantics.specs.Footprint.{Grant, denied, granted, targets, all_targets, merged, unless_denied, grant, child_modes}
 use Rattle.ahead.specs.Ahead.{access}
+use Rattle.semantics.specs.declared.Fault.{Fault}
+use Rattle.semantics.specs.declared.Fault.TheVariants.{Outside, Mode, TooLarge, ZeroDivisor}
+use Rattle.semantics.specs.Answers.{fault_number}
 use Rattle.grants.specs.Grants.{named_location, named_mode, spawner}
 
 -- the fault of an access, by the own mode and the mode asked for
+pub reader_reads : (own asked : ℕ) → own ≡ 1 → asked ≤ 1 → 0 ≡ access_fault own asked
+unfolding access_fault
+reader_reads own asked q h = by asked h ∙ ap (λ o. access_fault o asked) (sym q)
+  where
+    by : (asked : ℕ) → asked ≤ 1 → 0 ≡ access_fault 1 asked
+    by zero h = refl
+    by (suc zero) h = refl
+    by (suc (suc a)) h = let z : ⊥ = omega arith in absurd z
+
+pub writer_may : (own asked : ℕ) → own ≡ 2 → asked ≤ 3 → 0 ≡ access_fault own asked
+unfolding access_fault
+writer_may own asked q h = by asked h ∙ ap (λ o. access_fault o asked) (sym q)
+  where
+    by : (asked : ℕ) → asked ≤ 3 → 0 ≡ access_fault 2 asked
+    by zero h = refl
+    by (suc zero) h = refl
+    by (suc (suc zero)) h = refl
+    by (suc (suc (suc zero))) h = refl
+    by (suc (suc (suc (suc a)))) h = let z : ⊥ = omega arith in absurd z
+
+pub summer_none : (own asked : ℕ) → own ≡ 3 → asked ≡ 0 → 0 ≡ access_fault own asked
+unfolding access_fault
+summer_none own asked q h = ap (λ a. access_fault 3 a) (sym h) ∙ ap (λ o. access_fault o asked) (sym q)
+
+pub summer_sums : (own asked : ℕ) → own ≡ 3 → asked ≡ 3 → 0 ≡ access_fault own asked
+unfolding access_fault
+summer_sums own asked q h = ap (λ a. access_fault 3 a) (sym h) ∙ ap (λ o. access_fault o asked) (sym q)
+
+pub reader_writes : (own asked : ℕ) → own ≡ 1 → 1 < asked → asked ≤ 3 → 2 ≡ access_fault own asked
+unfolding access_fault
+reader_writes own asked q l h = by asked l h ∙ ap (λ o. access_fault o asked) (sym q)
+  where
+    by : (asked : ℕ) → 1 < asked → asked ≤ 3 → 2 ≡ access_fault 1 asked
+    by zero l h = let z : ⊥ = omega arith in absurd z
+    by (suc zero) l h = let z : ⊥ = omega arith in absurd z
+    by (suc (suc zero)) l h = refl
+    by (suc (suc (suc zero))) l h = refl
+    by (suc (suc (suc (suc a)))) l h = let z : ⊥ = omega arith in absurd z
+
+pub summer_reads : (own asked : ℕ) → own ≡ 3 → 1 ≤ asked → asked ≤ 2 → 2 ≡ access_fault own asked
+unfolding access_fault
+summer_reads own asked q l h = by asked l h ∙ ap (λ o. access_fault o asked) (sym q)
+  where
+    by : (asked : ℕ) → 1 ≤ asked → asked ≤ 2 → 2 ≡ access_fault 3 asked
+    by zero l h = let z : ⊥ = omega arith in absurd z
+    by (suc zero) l h = refl
+    by (suc (suc zero)) l h = refl
+    by (suc (suc (suc a))) l h = let z : ⊥ = omega arith in absurd z
+
 pub asked_beyond : (own asked : ℕ) → 3 < asked → 1 ≡ access_fault own asked
 unfolding access_fault
 asked_beyond own zero h = let z : ⊥ = omega arith in absurd z
@@ -28,44 +86,6 @@ asked_beyond (suc zero) (suc (suc (suc (suc a)))) h = refl
 asked_beyond (suc (suc zero)) (suc (suc (suc (suc a)))) h = refl
 asked_beyond (suc (suc (suc zero))) (suc (suc (suc (suc a)))) h = refl
 asked_beyond (suc (suc (suc (suc o)))) (suc (suc (suc (suc a)))) h = refl
-
-pub own_read : (asked : ℕ) → asked ≤ 1 → 0 ≡ access_fault 1 asked
-unfolding access_fault
-own_read zero h = refl
-own_read (suc zero) h = refl
-own_read (suc (suc a)) h = let z : ⊥ = omega arith in absurd z
-
-pub own_read_asked_more : (asked : ℕ) → 1 < asked → asked ≤ 3 → 2 ≡ access_fault 1 asked
-unfolding access_fault
-own_read_asked_more zero l h = let z : ⊥ = omega arith in absurd z
-own_read_asked_more (suc zero) l h = let z : ⊥ = omega arith in absurd z
-own_read_asked_more (suc (suc zero)) l h = refl
-own_read_asked_more (suc (suc (suc zero))) l h = refl
-own_read_asked_more (suc (suc (suc (suc a)))) l h = let z : ⊥ = omega arith in absurd z
-
-pub own_write : (asked : ℕ) → asked ≤ 3 → 0 ≡ access_fault 2 asked
-unfolding access_fault
-own_write zero h = refl
-own_write (suc zero) h = refl
-own_write (suc (suc zero)) h = refl
-own_write (suc (suc (suc zero))) h = refl
-own_write (suc (suc (suc (suc a)))) h = let z : ⊥ = omega arith in absurd z
-
-pub own_sum_asked_read : 2 ≡ access_fault 3 1
-unfolding access_fault
-own_sum_asked_read = refl
-
-pub own_sum_asked_write : 2 ≡ access_fault 3 2
-unfolding access_fault
-own_sum_asked_write = refl
-
-pub own_sum : (asked : ℕ) → asked ≤ 3 → asked ≢ 1 → asked ≢ 2 → 0 ≡ access_fault 3 asked
-unfolding access_fault
-own_sum zero h p q = refl
-own_sum (suc zero) h p q = absurd (p refl)
-own_sum (suc (suc zero)) h p q = absurd (q refl)
-own_sum (suc (suc (suc zero))) h p q = refl
-own_sum (suc (suc (suc (suc a)))) h p q = let z : ⊥ = omega arith in absurd z
 
 pub own_other : (own asked : ℕ) → own ≢ 1 → own ≢ 2 → own ≢ 3 → 1 ≡ access_fault own asked
 unfolding access_fault
@@ -79,54 +99,8 @@ own_other (suc (suc zero)) a p q r = absurd (q refl)
 own_other (suc (suc (suc zero))) a p q r = absurd (r refl)
 own_other (suc (suc (suc (suc o)))) a p q r = refl
 
--- what a line names, by its kind
-abbrev named_by : List ℕ → ℕ → ℕ → ℕ
-named_by registers value k =
-    get_or (value ∷ value ∷ get_or registers value 0 ∷ get_or registers value 0 ∷ value ∷ get_or registers value 0 ∷ []) k 0
-
-module _ (registers : List ℕ) (l : Line) where
-  pub names_value : l.kind < 2 → l.value ≡ named_location registers l
-  unfolding named_location
-  names_value h = by_kind l.kind h
-    where
-      by_kind : (k : ℕ) → k < 2 → l.value ≡ named_by registers l.value k
-      by_kind zero h = refl
-      by_kind (suc zero) h = refl
-      by_kind (suc (suc k)) h = let z : ⊥ = omega arith in absurd z
-
-  pub names_register : 2 ≤ l.kind → l.kind < 4 → get_or registers l.value 0 ≡ named_location registers l
-  unfolding named_location
-  names_register b h = by_kind l.kind b h
-    where
-      by_kind : (k : ℕ) → 2 ≤ k → k < 4 → get_or registers l.value 0 ≡ named_by registers l.value k
-      by_kind zero b h = let z : ⊥ = omega arith in absurd z
-      by_kind (suc zero) b h = let z : ⊥ = omega arith in absurd z
-      by_kind (suc (suc zero)) b h = refl
-      by_kind (suc (suc (suc zero))) b h = refl
-      by_kind (suc (suc (suc (suc k)))) b h = let z : ⊥ = omega arith in absurd z
-
-  pub names_summed : l.kind ≡ 4 → l.value ≡ named_location registers l
-  unfolding named_location
-  names_summed e = ap (named_by registers l.value) (sym e)
-
-  pub names_summed_register : l.kind ≡ 5 → get_or registers l.value 0 ≡ named_location registers l
-  unfolding named_location
-  names_summed_register e = ap (named_by registers l.value) (sym e)
-
-  pub names_none : 6 ≤ l.kind → 0 ≡ named_location registers l
-  unfolding named_location
-  names_none h =
-      sym (get_or-eq_default
-      (l.value ∷ l.value ∷ get_or registers l.value 0 ∷ get_or registers l.value 0 ∷ l.value ∷ get_or registers l.value 0 ∷ []) 0 h)
-
--- the mode that each kind of line asks for
-pub kind_mode : (l : Line) (k : ℕ) → l.kind ≡ k → get_or (1 ∷ 2 ∷ 1 ∷ 2 ∷ 3 ∷ 3 ∷ []) k 0 ≡ named_mode l
-unfolding named_mode
-kind_mode l k e = ap (λ m. get_or (1 ∷ 2 ∷ 1 ∷ 2 ∷ 3 ∷ 3 ∷ []) m 0) (sym e)
-
-pub kind_none : (l : Line) → 6 ≤ l.kind → 0 ≡ named_mode l
-unfolding named_mode
-kind_none l h = sym (get_or-eq_default (1 ∷ 2 ∷ 1 ∷ 2 ∷ 3 ∷ 3 ∷ []) 0 h)
+-- for the test of an access
+pub ruleset faults = (reader_reads, writer_may, summer_none, summer_sums, reader_writes, summer_reads, asked_beyond, own_other)
 
 -- the mode of two lines, by whether the modes are there and are one
 pub merged_first : (e m : ℕ) → e ≡ 0 → m ≡ merged e m
@@ -152,10 +126,39 @@ merged_other zero m p q r = absurd (p refl)
 merged_other (suc e) zero p q r = absurd (q refl)
 merged_other (suc e) (suc m) p q r = rw (ne_eqb e m (λ x. r (ap suc x))) refl
 
-denies : (k : ℕ) (g : Grant) → k ≢ 0 → unless_denied k g ≡ denied k
+-- for the mode of two lines
+pub ruleset merges = (merged_first, merged_none, merged_common, merged_other)
+
+-- a fault's number is not 0, which denies
+pub fault_above : (k : Fault) → fault_number k ≢ 0
+fault_above Outside e = omega arith
+fault_above Mode e = omega arith
+fault_above TooLarge e = omega arith
+fault_above ZeroDivisor e = omega arith
+
+pub denies : (k : Fault) (g : Grant) → unless_denied (fault_number k) g ≡ denied (fault_number k)
 unfolding unless_denied
-denies zero g h = absurd (h refl)
-denies (suc k) g h = refl
+denies Outside g = refl
+denies Mode g = refl
+denies TooLarge g = refl
+denies ZeroDivisor g = refl
+
+-- the lines of a footprint, in the code's terms
+module _ (t : Tables) (f : ℕ) (w : length t.widths ≡ 32) where
+  used : (n : ℕ) → n ≡ min (get_or (take (min t.footprints 32) t.widths) f 0) 8 → take n (drop (8 * f) t.lines) ≡ footprint_of (list_of t) f
+  unfolding footprint_of list_of
+  used n q =
+      ap (λ m. take m (drop (8 * f) t.lines))
+      (q ∙ ap (λ l. min (get_or l f 0) 8) (ap (λ k. take (min t.footprints k) t.widths) (sym w) ∙ take_min t.footprints t.widths))
+      ∙ sym (rows_at 8 (take t.footprints t.widths) t.lines f)
+
+  pub lines_are :
+      (n : ℕ) → n ≡ min (get_or (take (min t.footprints 32) t.widths) f 0) 8
+      → slice_range t.lines (8 * f) (8 * f + n) ≡ footprint_of (list_of t) f
+  lines_are n q = let same : 8 * f + n - 8 * f ≡ n = omega arith in ap (λ m. take m (drop (8 * f) t.lines)) same ∙ used n q
+
+  pub no_lines : (n : ℕ) → n ≡ min (get_or (take (min t.footprints 32) t.widths) f 0) 8 → n ≡ 0 → [] ≡ footprint_of (list_of t) f
+  no_lines n q z = ap (λ m. take m (drop (8 * f) t.lines)) (sym z) ∙ used n q
 
 -- the first j lines are granted these modes
 module _ (registers own : List ℕ) (ls : List Line) where
@@ -166,33 +169,32 @@ module _ (registers own : List ℕ) (ls : List Line) where
   unfolding Given child_modes
   given_none = refl
 
-  module _ (modes : List ℕ) (j location asked fault : ℕ) (l : Line) (h : j < length ls) (q : l ≡ get_or ls j blank_line)
-      (p : location ≡ named_location registers l) (m : asked ≡ named_mode l)
-      (f : fault ≡ access_fault (get_or own location 0) asked) (e : Given modes j) where
+  module _ (modes : List ℕ) (j location asked : ℕ) (l : Line) (h : j < length ls) (q : l ≡ get_or ls j blank_line)
+      (p : location ≡ named_location registers l) (m : asked ≡ named_mode l) (e : Given modes j) where
     abbrev with_line : List ℕ
     with_line = set modes location (merged (get_or modes location 0) asked)
 
-    opened : child_modes (spawner registers own) ls
-        ≡ unless_denied fault (grant (spawner registers own) with_line (all_targets (spawner registers own) (drop (suc j) ls)))
+    abbrev rest : Grant
+    rest = grant (spawner registers own) with_line (all_targets (spawner registers own) (drop (suc j) ls))
+
+    opened : (k : ℕ) → k ≡ access_fault (get_or own location 0) asked → child_modes (spawner registers own) ls ≡ unless_denied k rest
     unfolding Given all_targets targets grant named_location named_mode
-    opened =
+    opened k f =
         e ∙
         ap (λ d. grant (spawner registers own) modes (all_targets (spawner registers own) d))
         (drop-cons ls j blank_line h ∙ ap (λ x. x ∷ drop (suc j) ls) (sym q)) ∙
         ap (λ a. grant (spawner registers own) modes (access a (named_mode l) ∷ all_targets (spawner registers own) (drop (suc j) ls))) (sym p) ∙
         ap (λ a. grant (spawner registers own) modes (access location a ∷ all_targets (spawner registers own) (drop (suc j) ls))) (sym m) ∙
-        ap (λ k. unless_denied k (grant (spawner registers own) with_line (all_targets (spawner registers own) (drop (suc j) ls)))) (sym f)
+        ap (λ k. unless_denied k rest) (sym f)
 
-    pub given_more : fault ≡ 0 → Given with_line (j + 1)
+    pub given_more : 0 ≡ access_fault (get_or own location 0) asked → Given with_line (j + 1)
     unfolding Given unless_denied
-    given_more z =
-        rw (add-one j)
-        (opened ∙
-        ap (λ k. unless_denied k (grant (spawner registers own) with_line (all_targets (spawner registers own) (drop (suc j) ls)))) z)
+    given_more z = rw (add-one j) (opened 0 z)
 
-    pub given_denied : fault ≢ 0 → denied fault ≡ child_modes (spawner registers own) ls
-    given_denied z =
-        sym (opened ∙ denies fault (grant (spawner registers own) with_line (all_targets (spawner registers own) (drop (suc j) ls))) z)
+    pub given_denied :
+        (k : Fault) → fault_number k ≡ access_fault (get_or own location 0) asked
+        → denied (fault_number k) ≡ child_modes (spawner registers own) ls
+    given_denied k f = sym (opened (fault_number k) f ∙ denies k rest)
 
   pub given_all : (modes : List ℕ) (j : ℕ) → length ls ≤ j → Given modes j → granted modes ≡ child_modes (spawner registers own) ls
   unfolding Given all_targets grant

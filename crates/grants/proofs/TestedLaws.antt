@@ -2,17 +2,15 @@
 use Prim.Native.Nat.{ℕ, zero, suc, ◌+◌, ◌-◌, ◌≤◌, ◌<◌}
 use mathlib.Core.Path.{◌≡◌, refl, sym, ap, ◌∙◌}
 use mathlib.Core.List.{List}
-use mathlib.Core.Bool.{true, false, true≢false, false≢true}
 use native.Mathlib.Omega.{arith}
 use native.Mathlib.Numerals.{add-one}
 use lib.ListN.{set}
+use Rattle.std.specs.Prelude.{Result}
 use Rattle.tasklist.specs.declared.Line.{Line}
 use Rattle.semantics.specs.Run.{no_modes}
-use Rattle.semantics.specs.Footprint.{Grant, granted, child_modes}
-use Rattle.grants.specs.declared.Granting.{Granting}
-use Rattle.grants.specs.declared.Grant.{Grant as Answer}
-use Rattle.grants.specs.declared.Grant.TheVariants.{Denied, Granted}
-use Rattle.grants.specs.Grants.{spawner, granted_by, grant_of, child_registers, child_grant, is_denied, unless_faulted, grants_from}
+use Rattle.semantics.specs.Footprint.{Grant, denied, granted, child_modes}
+use Rattle.semantics.specs.declared.Fault.{Fault}
+use Rattle.grants.specs.Grants.{spawner, grant_of, child_registers, child_grant, unless_faulted, grants_from}
 
 -- the registers of child i
 pub registers_first : (i : ℕ) (rs : List ℕ) → i ≡ 0 → rs ≡ child_registers i rs
@@ -24,9 +22,12 @@ unfolding child_registers
 registers_later zero rs h = absurd (h refl)
 registers_later (suc i) rs h = refl
 
+-- for the registers of a child
+pub ruleset own_numbers = (registers_first, registers_later)
+
 -- what child i is given, by its registers
 pub child_given :
-    (registers own : List ℕ) (ls : List Line) (i : ℕ) (seen : List ℕ) → seen ≡ child_registers i registers → (g : Granting)
+    (registers own : List ℕ) (ls : List Line) (i : ℕ) (seen : List ℕ) → seen ≡ child_registers i registers → (g : Result (List ℕ) Fault)
     → grant_of g ≡ child_modes (spawner seen own) ls → grant_of g ≡ child_grant registers own ls i
 unfolding child_grant
 child_given registers own ls i seen q g h = h ∙ ap (λ rs. child_modes (spawner rs own) ls) q
@@ -44,33 +45,20 @@ module _ (f : ℕ → Grant) (k : ℕ) where
   unfolding Tested
   tested_none = let q : k ≡ k - 0 = omega arith in ap (λ m. grants_from f 0 m (granted no_modes)) q
 
-  module _ (i : ℕ) (before : Grant) (h : i < k) (g : Granting) (given : grant_of g ≡ f i) (e : Tested i before) where
-    opened : grants_from f 0 k (granted no_modes) ≡ unless_faulted (grant_of g) (grants_from f (suc i) (k - suc i) (grant_of g))
+  module _ (i : ℕ) (before : Grant) (h : i < k) (e : Tested i before) where
+    opened : (g : Grant) → g ≡ f i → grants_from f 0 k (granted no_modes) ≡ unless_faulted g (grants_from f (suc i) (k - suc i) g)
     unfolding Tested grants_from
-    opened =
+    opened g given =
         e ∙ ap (λ m. grants_from f i m before) (one_less k i h)
         ∙ ap (λ a. unless_faulted a (grants_from f (suc i) (k - suc i) a)) (sym given)
 
-    pub tested_more : is_denied g.grant ≡ false → Tested (i + 1) (grant_of g)
+    pub tested_more : (modes : List ℕ) → granted modes ≡ f i → Tested (i + 1) (granted modes)
     unfolding Tested unless_faulted
-    tested_more q = rw (add-one i) (opened ∙ free g.grant q)
-      where
-        free :
-            (a : Answer) → is_denied a ≡ false
-            → unless_faulted (granted_by a g.modes) (grants_from f (suc i) (k - suc i) (grant_of g))
-            ≡ grants_from f (suc i) (k - suc i) (grant_of g)
-        free (Denied j) q = absurd (true≢false q)
-        free Granted q = refl
+    tested_more modes given = rw (add-one i) (opened (granted modes) given)
 
-    pub tested_denied : is_denied g.grant ≡ true → grant_of g ≡ grants_from f 0 k (granted no_modes)
+    pub tested_denied : (j : ℕ) → denied j ≡ f i → denied j ≡ grants_from f 0 k (granted no_modes)
     unfolding unless_faulted
-    tested_denied q = sym (opened ∙ held g.grant q)
-      where
-        held :
-            (a : Answer) → is_denied a ≡ true
-            → unless_faulted (granted_by a g.modes) (grants_from f (suc i) (k - suc i) (grant_of g)) ≡ granted_by a g.modes
-        held (Denied j) q = refl
-        held Granted q = absurd (false≢true q)
+    tested_denied j given = sym (opened (denied j) given)
 
   pub tested_all : (i : ℕ) (last : Grant) → k ≤ i → Tested i last → last ≡ grants_from f 0 k (granted no_modes)
   unfolding Tested grants_from

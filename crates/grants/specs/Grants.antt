@@ -1,11 +1,10 @@
 -- What a footprint's line names, what the code's answer to a footprint stands for, and what several children are given.
-use Rattle.std.specs.Prelude.{ℕ, zero, suc, List, [], ◌∷◌, Bool, true, false, get_or, set}
+use Rattle.std.specs.Prelude.{ℕ, zero, suc, List, [], ◌∷◌, Option, Some, None, Result, Ok, Err, get_or, set}
 use Rattle.tasklist.specs.declared.Line.{Line}
+use Rattle.semantics.specs.declared.Fault.{Fault}
+use Rattle.semantics.specs.Answers.{fault_number}
 use Rattle.semantics.specs.Run.{Task}
-use Rattle.semantics.specs.Footprint.{Grant as Answer, denied, granted, child_modes}
-use Rattle.grants.specs.declared.Grant.{Grant}
-use Rattle.grants.specs.declared.Grant.TheVariants.{Denied, Granted}
-use Rattle.grants.specs.declared.Granting.{Granting}
+use Rattle.semantics.specs.Footprint.{Grant, denied, granted, child_modes}
 
 -- the location and the mode of a line, as in the model's `targets`
 unfoldable pub named_location : List ℕ → Line → ℕ
@@ -31,13 +30,15 @@ spawner registers modes =
       weight = 0;
     }
 
-abbrev pub granted_by : Grant → List ℕ → Answer
-granted_by (Denied k) modes = denied k
-granted_by Granted modes = granted modes
+-- the number of a fault, 0 for none
+abbrev pub fault_of : Option Fault → ℕ
+fault_of None = 0
+fault_of (Some k) = fault_number k
 
 -- the model's answer
-abbrev pub grant_of : Granting → Answer
-grant_of g = granted_by g.grant g.modes
+abbrev pub grant_of : Result (List ℕ) Fault → Grant
+grant_of (Err k) = denied (fault_number k)
+grant_of (Ok modes) = granted modes
 
 -- request 104: "Child i has R0 = i": the registers of child i, by those of the foremost, child 0
 unfoldable pub child_registers : ℕ → List ℕ → List ℕ
@@ -45,19 +46,15 @@ child_registers zero registers = registers
 child_registers (suc i) registers = set registers 0 (suc i)
 
 -- "its footprint is found with that R0": what these lines give child i
-unfoldable pub child_grant : List ℕ → List ℕ → List Line → ℕ → Answer
+unfoldable pub child_grant : List ℕ → List ℕ → List Line → ℕ → Grant
 child_grant registers modes ls i = child_modes (spawner (child_registers i registers) modes) ls
 
-abbrev pub is_denied : Grant → Bool
-is_denied (Denied k) = true
-is_denied Granted = false
-
 -- this child's fault, or what comes of those after it
-unfoldable pub unless_faulted : Answer → Answer → Answer
+unfoldable pub unless_faulted : Grant → Grant → Grant
 unless_faulted (denied k) rest = denied k
 unless_faulted (granted modes) rest = rest
 
 -- "in order of children": the first fault of the k children from i on, else what the last of them is given
-unfoldable pub grants_from : (ℕ → Answer) → ℕ → ℕ → Answer → Answer
+unfoldable pub grants_from : (ℕ → Grant) → ℕ → ℕ → Grant → Grant
 grants_from f i zero last = last
 grants_from f i (suc k) last = unless_faulted (f i) (grants_from f (suc i) k (f i))

@@ -3,7 +3,7 @@ use Prim.Native.Nat.{ℕ, suc, ◌+◌, ◌-◌, ◌*◌, ◌^◌, ◌≤◌, �
 use mathlib.Core.Path.{◌≡◌, refl, sym, ap, ◌∙◌}
 use mathlib.Core.List.{List, [], ◌∷◌}
 use mathlib.Core.Bool.{Bool, true, false, cond}
-use mathlib.Core.Option.{none, some}
+use Rattle.std.specs.Prelude.{Some, None}
 use native.Mathlib.Omega.{arith}
 use native.Mathlib.Numerals.{add-one}
 use lib.ListN.{length, drop, get_or, drop_of_length-le}
@@ -24,18 +24,18 @@ unfolding is_digit
 digit_high b l = rw (le-leb 48 b (omega arith), lt-leb b 57 l) refl
 
 -- the number only grows
-pub pence_large : (n : ℕ) (text : List ℕ) → 2 ^ 32 ≤ n → pence_from n text ≡ none
+pub pence_large : (n : ℕ) (text : List ℕ) → 2 ^ 32 ≤ n → pence_from n text ≡ None
 unfolding pence_from
 pence_large n [] h = rw (le-ltb n (2 ^ 32) h) refl
 pence_large n (byte ∷ text) h = sort (is_digit byte) (pence_large (10 * n + (byte - 48)) text (omega arith))
   where
     sort :
-        (b : Bool) → pence_from (10 * n + (byte - 48)) text ≡ none
-        → cond b (pence_from (10 * n + (byte - 48)) text) none ≡ none
+        (b : Bool) → pence_from (10 * n + (byte - 48)) text ≡ None
+        → cond b (pence_from (10 * n + (byte - 48)) text) None ≡ None
     sort true ih = ih
     sort false ih = refl
 
-pub pence_empty : (text : List ℕ) → length text ≡ 0 → pence_in text ≡ none
+pub pence_empty : (text : List ℕ) → length text ≡ 0 → pence_in text ≡ None
 unfolding pence_in
 pence_empty [] h = refl
 pence_empty (byte ∷ text) h = let bad : ⊥ = omega (arith, h) in absurd bad
@@ -52,34 +52,37 @@ pub record Digits (text : List ℕ) (n i : ℕ) : Type 0 where
   pub rest : pence_in text ≡ pence_from n (drop i text)
 
 module _ (text : List ℕ) (n i : ℕ) (d : Digits text n i) where
-  pub digits_done : length text ≤ i → pence_in text ≡ some n
+  pub digits_done : length text ≤ i → pence_in text ≡ Some n
   unfolding pence_from
   digits_done h = d.rest ∙ ap (pence_from n) (drop_of_length-le text h) ∙ rw (lt-ltb n (2 ^ 32) d.small) refl
 
   module _ (h : i < length text) where
     by_byte :
         pence_in text
-        ≡ cond (is_digit (get_or text i 0)) (pence_from (10 * n + (get_or text i 0 - 48)) (drop (suc i) text)) none
+        ≡ cond (is_digit (get_or text i 0)) (pence_from (10 * n + (get_or text i 0 - 48)) (drop (suc i) text)) None
     unfolding pence_from
     by_byte = d.rest ∙ ap (pence_from n) (drop-cons text i 0 h)
 
-    pub digits_low : get_or text i 0 < 48 → pence_in text ≡ none
+    pub digits_low : get_or text i 0 < 48 → pence_in text ≡ None
     digits_low l = by_byte ∙ rw (digit_low (get_or text i 0) l) refl
 
-    pub digits_high : 57 < get_or text i 0 → pence_in text ≡ none
+    pub digits_high : 57 < get_or text i 0 → pence_in text ≡ None
     digits_high l = by_byte ∙ rw (digit_high (get_or text i 0) l) refl
 
     module _ (low : 48 ≤ get_or text i 0) (high : get_or text i 0 ≤ 57) where
       one_more : pence_in text ≡ pence_from (10 * n + (get_or text i 0 - 48)) (drop (suc i) text)
       one_more = by_byte ∙ rw (digit_is (get_or text i 0) low high) refl
 
-      pub digits_large : 2 ^ 32 ≤ 10 * n + (get_or text i 0 - 48) → pence_in text ≡ none
+      pub digits_large : 2 ^ 32 ≤ 10 * n + (get_or text i 0 - 48) → pence_in text ≡ None
       digits_large l = one_more ∙ pence_large (10 * n + (get_or text i 0 - 48)) (drop (suc i) text) l
 
-      pub digits_more : 10 * n + (get_or text i 0 - 48) < 2 ^ 32 → Digits text (10 * n + (get_or text i 0 - 48)) (i + 1)
-      digits_more l =
+      pub digits_more : (m : ℕ) → m ≡ 10 * n + (get_or text i 0 - 48) → m < 2 ^ 32 → Digits text m (i + 1)
+      digits_more m e l =
           record {
             within = omega arith;
             small = l;
-            rest = one_more ∙ ap (λ k. pence_from (10 * n + (get_or text i 0 - 48)) (drop k text)) (sym (add-one i));
+            rest =
+                one_more
+                ∙ ap (pence_from (10 * n + (get_or text i 0 - 48))) (ap (λ k. drop k text) (sym (add-one i)))
+                ∙ ap (λ k. pence_from k (drop (i + 1) text)) (sym e);
           }

@@ -4,6 +4,7 @@ use mathlib.Core.Path.{◌≡◌, refl, sym, ap, subst, ◌∙◌}
 use mathlib.Core.List.{List, ◌++◌}
 use mathlib.Core.Bool.{Bool, true, false, false≢true}
 use native.Mathlib.Omega.{arith}
+use Rattle.std.specs.Prelude.{Result, Ok, Err}
 use native.Mathlib.Nat.{zero-add}
 use lib.ListN.{length, take, drop, replicate, length-replicate}
 use lib.Seq.{take_at, length-take-le}
@@ -14,7 +15,7 @@ use Rattle.tasklist.proofs.Guarantees.{accepted_list}
 use Rattle.semantics.specs.Operations.{Asked, denies, gives}
 use Rattle.semantics.proofs.Bounds.{weights_heavy, weight_most}
 use Rattle.runtime.specs.declared.Run.{Run}
-use Rattle.runtime.specs.declared.Opened.{Opened}
+use Rattle.runtime.specs.declared.OpenRefusal.{OpenRefusal}
 use Rattle.runtime.specs.View.{model, context_of, SoundRun}
 use Rattle.runtime.specs.Asked.{open_number, queue_answer, queue_out}
 use Rattle.wording.specs.Wording.{refused_line}
@@ -27,10 +28,9 @@ use Rattle.bill_shares.proofs.SharedLaw.{shared}
 use Rattle.model_bill.specs.Bill.{wards, ward_weights, shares_asked}
 use Rattle.model_bill.proofs.Weights.{some_weight, all_weighs}
 use Rattle.model_bill.proofs.Given.{Given, asked_gives}
-use Rattle.bill_wards.specs.declared.Billed.{Billed}
-use Rattle.bill_wards.specs.declared.Billed.TheVariants as Billing
+use Rattle.bill_wards.specs.declared.BillRefusal.{BillRefusal}
 use Rattle.bill_wards.specs.declared.Wards.{Wards}
-use Rattle.bill_wards.specs.Answers.{refusal_of, billed}
+use Rattle.bill_wards.specs.Answers.{bill_refusal_number, billed}
 use Rattle.bill_wards.specs.Promises.{BilledAs, WardsOf}
 use Rattle.host_bill.specs.Lines.{wards_word, told, ward_lines, lines_of, bill_text, room}
 use Rattle.host_bill.specs.Promises.{RunPrinted, BillPrinted}
@@ -54,28 +54,12 @@ unfolding queue_answer
 given_by n (denies j) e = absurd (false≢true (sym (ap succeeds e)))
 given_by n (gives l) e = (l, refl)
 
-asked_refused :
-    (b : Billed) (asked : Asked (List ℕ)) → billed b ≡ queue_answer asked → 0 < refusal_of b → asked ≡ denies (refusal_of b)
-unfolding billed refusal_of
-asked_refused (Billing.Wards n) asked e h = let bad : ⊥ = omega arith in absurd bad
-asked_refused Billing.Left asked e h = refused_by 28 asked e
-asked_refused Billing.NoWard asked e h = refused_by 29 asked e
-asked_refused Billing.Short asked e h = refused_by 17 asked e
-
-asked_given :
-    (b : Billed) (asked : Asked (List ℕ)) → billed b ≡ queue_answer asked → refusal_of b ≡ 0 → (l : List ℕ) × (asked ≡ gives l)
-unfolding billed refusal_of
-asked_given (Billing.Wards n) asked e h = given_by n asked e
-asked_given Billing.Left asked e h = let bad : ⊥ = omega (arith, h) in absurd bad
-asked_given Billing.NoWard asked e h = let bad : ⊥ = omega (arith, h) in absurd bad
-asked_given Billing.Short asked e h = let bad : ⊥ = omega (arith, h) in absurd bad
-
 -- the lent array of pence: 128 places
 abbrev pub none_yet : List ℕ
 none_yet = replicate 128 0
 
 module _
-    (run : Run) (bill : ℕ) (b : Billed) (pence : List ℕ) (h : BilledAs run bill none_yet pence b) (out : List ℕ)
+    (run : Run) (bill : ℕ) (b : Result ℕ BillRefusal) (pence : List ℕ) (h : BilledAs run bill none_yet pence b) (out : List ℕ)
     (wide : room ≤ length out)
   where
     answered : (s : SoundRun run) → billed b ≡ queue_answer (shares_asked (context_of run) (model run) bill 128)
@@ -85,14 +69,15 @@ module _
 
     -- a refusal
     pub printed_refused :
-        (number : ℕ) → number ≡ refusal_of b → 0 < number → (after : List ℕ) (n : ℕ) → PutAt (refused_line number) out 0 after n
-        → n ≤ 19 → RunPrinted run bill out after n
+        (k : BillRefusal) → b ≡ Err k → (number : ℕ) → number ≡ bill_refusal_number k → (after : List ℕ) (n : ℕ)
+        → PutAt (refused_line number) out 0 after n → n ≤ 19 → RunPrinted run bill out after n
     unfolding bill_text lines_of
-    printed_refused number q some after n p few =
+    printed_refused k is number q after n p few =
         record {
           lines = λ s.
+              let asked = refused_by (bill_refusal_number k) _ (ap billed (sym is) ∙ answered s) in
               subst (λ x. PutAt x out 0 after n)
-              (sym (ap (lines_of (context_of run) (model run)) (asked_refused b _ (answered s) (omega (arith, q))) ∙ ap refused_line (sym q)))
+              (sym (ap (lines_of (context_of run) (model run)) asked ∙ ap refused_line (sym q)))
               p;
           most = omega arith;
           long = p.long;
@@ -101,7 +86,7 @@ module _
 
     -- a bill that is shared
     module _
-        (is_shared : refusal_of b ≡ 0) (w : Wards) (f : WardsOf run w) (sum : ℕ)
+        (named : ℕ) (is_shared : b ≡ Ok named) (w : Wards) (f : WardsOf run w) (sum : ℕ)
         (sum_is_lem : whole (take w.count w.weights) < 2 ^ 32 → sum ≡ whole (take w.count w.weights))
       where
         module _ (s : SoundRun run) where
@@ -109,7 +94,7 @@ module _
           accepted = accepted_list s.bytes (list_of run.tables) s.list
 
           share : (l : List ℕ) × (shares_asked (context_of run) (model run) bill 128 ≡ gives l)
-          share = asked_given b (shares_asked (context_of run) (model run) bill 128) (answered s) is_shared
+          share = given_by named (shares_asked (context_of run) (model run) bill 128) (ap billed (sym is_shared) ∙ answered s)
 
           g : Given (context_of run) (model run) bill share.0
           g = asked_gives (context_of run) (model run) bill 128 share.0 share.1
@@ -183,20 +168,29 @@ module _
             }
 
 -- what is printed of a run that was asked for
-module _ (opened : Opened) (bill : ℕ) (out : List ℕ) where
-  pub bill_short : length out < room → BillPrinted opened bill out out 0
-  bill_short h =
+module _ (bill : ℕ) (out : List ℕ) where
+  nothing : (bytes : List ℕ) → length out < room → Wrote (given room out bytes) out out 0
+  nothing bytes h = wrote_none (given room out bytes) out (no_room room out bytes h)
+
+  pub bill_short : (opened : Result Run OpenRefusal) → length out < room → BillPrinted opened bill out out 0
+  bill_short (Ok run) h =
       record {
-        refused = λ z. none (refused_line (open_number opened.answer));
-        lines = λ z s. none (bill_text (context_of opened.run) (model opened.run) bill);
+        refused = tt;
+        lines = λ s. nothing (bill_text (context_of run) (model run) bill) h;
         within = omega arith;
         whole = refl;
         long = refl;
         rest = refl;
       }
-    where
-      none : (bytes : List ℕ) → Wrote (given room out bytes) out out 0
-      none bytes = wrote_none (given room out bytes) out (no_room room out bytes h)
+  bill_short (Err k) h =
+      record {
+        refused = nothing (refused_line (open_number k)) h;
+        lines = tt;
+        within = omega arith;
+        whole = refl;
+        long = refl;
+        rest = refl;
+      }
 
   module _ (wide : room ≤ length out) (after : List ℕ) (n : ℕ) where
     with_all : (bytes : List ℕ) → PutAt bytes out 0 after n → n ≤ room → Wrote (given room out bytes) out after n
@@ -206,24 +200,23 @@ module _ (opened : Opened) (bill : ℕ) (out : List ℕ) where
         p
 
     pub bill_refused :
-        (number : ℕ) → number ≡ open_number opened.answer → 0 < number → PutAt (refused_line number) out 0 after n → n ≤ 19
-        → BillPrinted opened bill out after n
-    bill_refused number q some p most =
+        (k : OpenRefusal) (number : ℕ) → number ≡ open_number k → PutAt (refused_line number) out 0 after n → n ≤ 19
+        → BillPrinted (Err k) bill out after n
+    bill_refused k number q p most =
         record {
-          refused = λ z.
-              subst (λ k. Wrote (given room out (refused_line k)) out after n) q (with_all (refused_line number) p (omega arith));
-          lines = λ z s. let bad : ⊥ = omega (arith, q, z) in absurd bad;
+          refused = subst (λ m. Wrote (given room out (refused_line m)) out after n) q (with_all (refused_line number) p (omega arith));
+          lines = tt;
           within = omega (arith, p.long, wide);
           whole = sym (length-take-le n after (omega (arith, p.long, wide)));
           long = p.long;
           rest = put_behind (refused_line number) out after n p (omega (arith, wide));
         }
 
-    pub bill_run : open_number opened.answer ≡ 0 → RunPrinted opened.run bill out after n → BillPrinted opened bill out after n
-    bill_run q p =
+    pub bill_run : (run : Run) → RunPrinted run bill out after n → BillPrinted (Ok run) bill out after n
+    bill_run run p =
         record {
-          refused = λ z. absurd (z q);
-          lines = λ z s. with_all (bill_text (context_of opened.run) (model opened.run) bill) (p.lines s) p.most;
+          refused = tt;
+          lines = λ s. with_all (bill_text (context_of run) (model run) bill) (p.lines s) p.most;
           within = omega (arith, p.long, p.most, wide);
           whole = sym (length-take-le n after (omega (arith, p.long, p.most, wide)));
           long = p.long;

@@ -1,31 +1,22 @@
 // The bill, as the program's argument has it.
-ghost use Rattle.std.specs.Prelude.{◌≡◌, ◌+◌, ◌-◌, ◌*◌, ◌^◌, ◌<◌};
-ghost use Rattle.host_bill.specs.Argument.{said, pence_in};
-
-use crate::{MOST, Pence};
+ghost use Rattle.std.specs.Prelude.{◌≡◌};
+ghost use Rattle.host_bill.specs.Argument.{pence_in};
 
 // The number that decimal digits make, where it is below 2^32.
-pub fn pence_in(text: &[u8]) -> Pence
-    ensures { said result ≡ pence_in text.now }
+#[tactic(auto, using(crate::proofs::ArgumentLaws::pence_empty))]
+pub fn pence_in(text: &[u8]) -> Option<u32>
+    ensures { result ≡ pence_in text.now }
 {
-    if text.len() == 0 {
-        return Pence::No;
+    if text.is_empty() {
+        return None;
     }
-    let mut number: u64 = 0;
-    let mut i = 0;
-    while i < text.len() {
-        let byte = text[i];
-        if byte < b'0' {
-            return Pence::No;
-        }
-        if b'9' < byte {
-            return Pence::No;
-        }
-        number = 10 * number + (byte - b'0') as u64;
-        if MOST < number {
-            return Pence::No;
-        }
-        i += 1;
+    let mut number: u32 = 0;
+    for byte in text {
+        let digit = match byte {
+            b'0'..=b'9' => *byte - b'0',
+            _ => return None,
+        };
+        number = number.checked_mul(10)?.checked_add(u32::from(digit))?;
     }
-    Pence::Number(number as u32)
+    Some(number)
 }

@@ -5,18 +5,6 @@
 // How many places a lent slice needs: no bill's lines are longer, 50 places for each of 128 lines and 52 for the last.
 pub const ROOM: usize = 6452;
 
-// The largest number of 32 bits.
-const MOST: u64 = u32::MAX as u64;
-
-// What an argument says.
-#[derive(Clone, Copy)]
-pub enum Pence {
-    // so many pence
-    Number(u32),
-    // it is no number below 2^32
-    No,
-}
-
 mod argument;
 mod files;
 mod lines;

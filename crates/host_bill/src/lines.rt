@@ -5,10 +5,10 @@ ghost use Rattle.wording.specs.Promises.{PutAt};
 ghost use Rattle.host_bill.specs.Lines.{told, ward_lines, room};
 ghost use Rattle.host_bill.specs.Promises.{Arrays, RunPrinted, BillPrinted};
 
-use crate::{MOST, ROOM};
+use crate::ROOM;
 use bill_shares::PLACES;
 use bill_wards::Wards;
-use runtime::{Opened, Run};
+use runtime::{OpenRefusal, Run};
 use wording::{put_number, put_word};
 
 // Puts a line: a word with a number, a weight and pence.
@@ -31,41 +31,22 @@ fn put_wards(wards: Wards, pence: [u32; PLACES], out: &mut [u8]) -> usize
     ensures put { PutAt (ward_lines (take wards.count wards.numbers) (take wards.count wards.weights) (take wards.count pence)) out.old 0 out.new result }
     ensures most { result ≤ 50 * wards.count }
 {
-    let count = wards.count;
     let mut stop = 0;
-    let mut i = 0;
-    while i < count {
-        stop = put_line(
-            out,
-            stop,
-            b"job ",
-            wards.numbers[i] as u32,
-            wards.weights[i],
-            pence[i],
-        );
-        i += 1;
+    for i in 0..wards.count {
+        let number = u32::from(wards.numbers[i]);
+        stop = put_line(out, stop, b"job ", number, wards.weights[i], pence[i]);
     }
     stop
 }
 
-// A number that 32 bits hold; of a larger one nothing is said.
-fn narrow(n: u64) -> u32
-    ensures { n < 2 ^ 32 → result ≡ n }
-{
-    if MOST < n {
-        return 0;
-    }
-    n as u32
-}
-
 // Puts the line of a refusal at the front.
-fn put_refused(out: &mut [u8], number: u32) -> usize
+fn put_refused(out: &mut [u8], number: u8) -> usize
     requires { room ≤ length out.old }
     ensures put { PutAt (refused_line number) out.old 0 out.new result }
     ensures most { result ≤ 19 }
 {
     let at = put_word(out, 0, b"refused ");
-    put_number(out, at, number, b'\n')
+    put_number(out, at, u32::from(number), b'\n')
 }
 
 // Puts all that is printed of a run at the front: the line of a refusal, or a line for each ward and the sums.
@@ -74,32 +55,26 @@ fn put_bill(run: Run, bill: u32, out: &mut [u8]) -> usize
     ensures { RunPrinted run bill out.old out.new result }
 {
     let mut pence = [0u32; PLACES];
-    let billed = bill_wards::shares(run, bill, &mut pence);
-    let number = bill_wards::billed_number(billed);
-    if 0 < number {
-        return put_refused(out, number);
+    if let Err(refusal) = bill_wards::shares(run, bill, &mut pence) {
+        return put_refused(out, u8::from(refusal));
     }
     let wards = bill_wards::wards_of(run);
-    let weights = wards.weights;
-    let count = wards.count;
     let at = put_wards(wards, pence, out);
-    let whole = narrow(bill_shares::whole_of(weights, count));
-    put_line(out, at, b"wards ", count as u32, whole, bill)
+    // The wards weigh no more than the run, whose weight has 32 bits.
+    let whole = u32::try_from(bill_shares::whole_of(wards.weights, wards.count)).unwrap_or(0);
+    put_line(out, at, b"wards ", wards.count as u32, whole, bill)
 }
 
 // All that is printed of a run that was opened, run by hand or led on by calls, at the front of `out`: the line of a failed open,
 // or the run's. Nothing where `out` has fewer than ROOM places.
-pub fn bill_lines(opened: Opened, bill: u32, out: &mut [u8]) -> usize
+pub fn bill_lines(opened: Result<Run, OpenRefusal>, bill: u32, out: &mut [u8]) -> usize
     ensures { BillPrinted opened bill out.old out.new result }
 {
     if out.len() < ROOM {
         return 0;
     }
-    let answer = opened.answer;
-    let refusal = wording::open_number(answer);
-    if 0 < refusal {
-        return put_refused(out, refusal as u32);
+    match opened {
+        Ok(run) => put_bill(run, bill, out),
+        Err(refusal) => put_refused(out, u8::from(refusal)),
     }
-    let run = opened.run;
-    put_bill(run, bill, out)
 }

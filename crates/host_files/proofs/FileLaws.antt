@@ -1,25 +1,11 @@
--- What was read lies within the buffer, and is what the reader gave. Assumes nothing.
-use Prim.Native.Nat.{ℕ, ◌≤◌}
-use mathlib.Core.Path.{◌≡◌, sym, ap, ◌∙◌}
-use mathlib.Core.List.{List}
-use lib.ListN.{length, take}
-use lib.Seq.{length-take-le}
-use Rattle.host_files.specs.declared.FileRead.TheVariants.{Bytes}
-use Rattle.host_files.specs.declared.FileRead.{FileRead}
-use Rattle.host_files.specs.Files.{size_of, Within}
-use Rattle.std.proofs.Common.{◌+◌, ◌-◌, ◌++◌, drop, subst, le_refl, drop_at}
-use Rattle.std.specs.declared.option.Option.{Option}
+-- What was read is what the reader gave. Assumes nothing.
+use Rattle.std.proofs.Common.{ℕ, ◌≡◌, ◌≤◌, ◌+◌, ◌-◌, ◌++◌, ◌∙◌, List, length, take, drop, sym, ap, subst, le_refl, drop_at}
+use Rattle.std.specs.Prelude.{Option}
 use Rattle.std.specs.Io.KnownBytes.{Consumes}
 use Rattle.std.proofs.KnownBytes.{Consumes-trans}
 use Rattle.std.proofs.lemmas.Slice.{take-put_mid_below}
 use borrow.Rule.Slice.PartMut.{put_mid, post_of}
-use lib.Seq.{take-add, take-append-le}
-
-pub within : (n : ℕ) (buffer : List ℕ) → n ≤ length buffer → Within (Bytes n) buffer
-within n buffer h = record { most = h; whole = sym (length-take-le n buffer h) }
-
-pub read_whole : (read : FileRead) (buffer : List ℕ) (n : ℕ) → n ≡ size_of read → Within read buffer → n ≡ length (take n buffer)
-read_whole read buffer n e w = e ∙ w.whole ∙ ap (λ k. length (take k buffer)) (sym e)
+use lib.Seq.{take-add, take-append-le, length-take-le}
 
 -- one more read: behind what was read before stands what it gave
 pub read_on :

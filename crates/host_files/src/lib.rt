@@ -1,9 +1,10 @@
 // The files that the programs for a host read: jobs.bin and library.bin, each from its start up to its end or the buffer's.
 #![tactic(auto)]
 
-ghost use Rattle.std.specs.Prelude.{◌≡◌, ◌≤◌, length, take};
+ghost use Rattle.std.specs.Prelude.{◌≡◌, ◌≤◌, length, take, IfOk, IfErr, OnSome, option_copied, option_map};
 ghost use Rattle.std.specs.Io.KnownBytes.{Consumes};
-ghost use Rattle.host_files.specs.Files.{size_of, Within, Front};
+ghost use Rattle.std.specs.Str.{IsUtf8};
+ghost use Rattle.host_files.specs.Files.{size_of, Within, Front, Taken, ReadsTo};
 
 use std::fs::{File, Files};
 use std::io::Read;
@@ -13,46 +14,52 @@ pub const LIST_ROOM: usize = 4806;
 
 pub const LIBRARY_ROOM: usize = 257;
 
-// What came of reading a file.
+// A read failed behind so many bytes.
 #[derive(Clone, Copy)]
-pub enum FileRead {
-    // It is missing, or an error came while it was read.
-    Unreadable,
-    // So many bytes from its start: all of it, unless the buffer is full.
-    Bytes(usize),
+struct CutOff {
+    bytes: usize,
 }
 
-// Reads a file that is open, up to its end or the buffer's.
-fn read_open<F: Read>(file: &mut F, buf: &mut [u8]) -> FileRead
-    ensures within { Within result buf.new }
-    ensures front { Front (F.remaining file.old) (F.remaining file.new) result buf.new }
+// Reads into a buffer until it is full, the file ends or a read fails: how many bytes that are.
+fn read_up_to<F: Read>(file: &mut F, buf: &mut [u8]) -> Result<usize, CutOff>
+    ensures whole { IfOk result (λ n. ReadsTo (F.remaining file.old) (F.remaining file.new) n buf.new) }
+    ensures part { IfErr result (λ cut. Taken (F.remaining file.old) (F.remaining file.new) cut.bytes buf.new) }
 {
     let mut done = 0;
     while done < buf.len() {
         match file.read(&mut buf[done..]) {
-            Err(_) => return FileRead::Unreadable,
-            Ok(n) => {
-                if n == 0 {
-                    return FileRead::Bytes(done);
-                }
-                done += n;
-            }
+            Err(_) => return Err(CutOff { bytes: done }),
+            Ok(0) => return Ok(done),
+            Ok(n) => done += n,
         }
     }
-    FileRead::Bytes(done)
+    Ok(done)
 }
 
-// Reads the file of a name from its start. A name that is no text names no file.
-pub fn read_file<R: Files>(rt: &R, name: &[u8], buf: &mut [u8]) -> FileRead
+// Reads a file that is open, up to its end or the buffer's: so many bytes from its start, unless a read fails.
+fn read_open<F: Read>(file: &mut F, buf: &mut [u8]) -> Option<usize>
+    ensures within { Within result buf.new }
+    ensures front { Front (F.remaining file.old) (F.remaining file.new) result buf.new }
+{
+    read_up_to(file, buf).ok()
+}
+
+// The file of a name, open to be read. A name that is no text names no file.
+// Kept: the name is bytes and no &str, as a program's arguments and the callers of `read_file` have it.
+pub fn open_named<R: Files>(rt: &R, name: &[u8]) -> Option<R::File>
+    ensures { OnSome result (IsUtf8 name.now) }
+{
+    let path = str::from_utf8(name).ok()?;
+    File::open(rt, path).ok()
+}
+
+// Reads the file of a name from its start, up to its end or the buffer's: how many bytes that are. None where it can't be
+// opened, or a read fails.
+pub fn read_file<R: Files>(rt: &R, name: &[u8], buf: &mut [u8]) -> Option<usize>
     ensures { Within result buf.new }
 {
-    match str::from_utf8(name) {
-        Err(_) => FileRead::Unreadable,
-        Ok(path) => match File::open(rt, path) {
-            Err(_) => FileRead::Unreadable,
-            Ok(mut file) => read_open(&mut file, buf),
-        },
-    }
+    let mut file = open_named(rt, name)?;
+    read_open(&mut file, buf)
 }
 
 // Reads into a buffer until it is full, the file ends or a read fails, and returns how many bytes that are.
@@ -60,27 +67,62 @@ pub fn fill<F: Read>(file: &mut F, buf: &mut [u8]) -> usize
     ensures most { result ≤ length buf.new }
     ensures bytes { Consumes (F.remaining file.old) (F.remaining file.new) (take result buf.new) }
 {
-    let mut filled = 0;
-    while filled < buf.len() {
-        match file.read(&mut buf[filled..]) {
-            Err(_) => return filled,
-            Ok(n) => {
-                if n == 0 {
-                    return filled;
-                }
-                filled += n;
-            }
-        }
+    match read_up_to(file, buf) {
+        Ok(n) => n,
+        Err(cut) => cut.bytes,
     }
-    filled
 }
 
-// "an unreadable file counts as empty"
-pub fn size_of(read: FileRead) -> usize
-    ensures { result ≡ size_of read }
-{
-    match read {
-        FileRead::Unreadable => 0,
-        FileRead::Bytes(n) => n,
+// What was read of a file: its bytes, or None where it can't be read.
+#[derive(Drop)]
+pub struct Contents<const ROOM: usize> {
+    pub buffer: [u8; ROOM],
+    pub read: Option<usize>,
+    ghost within: { size_of read ≤ ROOM },
+}
+
+impl<const ROOM: usize> Contents<ROOM> {
+    // Reads the file of a name.
+    fn of_file<R: Files>(rt: &R, name: &[u8]) -> Contents<ROOM> {
+        let mut buffer = [0u8; ROOM];
+        let read = read_file(rt, name, &mut buffer);
+        Contents { buffer, read }
+    }
+
+    pub fn bytes(&self) -> Option<&[u8]>
+        ensures { option_copied result ≡ option_map (λ n. take n self.now.buffer) self.now.read }
+    {
+        match self.read {
+            Some(n) => Some(&self.buffer[..n]),
+            None => None,
+        }
+    }
+}
+
+// The two files of the folder that a program runs in.
+#[derive(Drop)]
+pub struct Folder {
+    pub jobs: Contents<LIST_ROOM>,
+    pub library: Contents<LIBRARY_ROOM>,
+}
+
+impl Folder {
+    // Reads jobs.bin and library.bin. No contract can say what a file gives; of each as much is read as there is room for, which the type
+    // of its contents keeps too.
+    pub fn read<R: Files>(rt: &R) -> Folder
+        ensures jobs { size_of result.jobs.read ≤ LIST_ROOM }
+        ensures library { size_of result.library.read ≤ LIBRARY_ROOM }
+    {
+        Folder {
+            jobs: Contents::of_file(rt, b"jobs.bin"),
+            library: Contents::of_file(rt, b"library.bin"),
+        }
+    }
+
+    // The bytes of library.bin. A file that can't be read counts as empty.
+    pub fn library_bytes(&self) -> &[u8]
+        ensures { result.now ≡ take (size_of self.now.library.read) self.now.library.buffer }
+    {
+        self.library.bytes().unwrap_or(&[])
     }
 }

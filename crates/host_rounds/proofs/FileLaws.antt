@@ -4,6 +4,7 @@ use mathlib.Core.Path.{◌≡◌, refl, sym, ap, subst, ◌∙◌}
 use mathlib.Core.List.{List, ◌++◌}
 use mathlib.Core.Bool.{cond, ◌&&◌}
 use native.Mathlib.Omega.{arith}
+use Rattle.std.specs.Prelude.{Some, Result, Ok, Err}
 use lib.Dec.{eqb, leb}
 use Rattle.library.specs.Library.{memory_of, fitting}
 use Rattle.semantics.specs.Run as Semantics
@@ -11,6 +12,7 @@ use Rattle.semantics.specs.Run.{initial, fixed_weights}
 use Rattle.semantics.specs.Operations.{Asked, denies, gives, open_asked}
 use Rattle.semantics.proofs.Asked.{AskedCase, denied, given, asked_case}
 use Rattle.model_rounds.specs.Rounds.{Report, report, rounds_asked, most_workers}
+use Rattle.runtime.specs.declared.OpenRefusal.{OpenRefusal}
 use Rattle.runtime.specs.Asked.{open_number}
 use Rattle.run_rounds.specs.declared.RoundsTable.{RoundsTable}
 use Rattle.run_rounds.specs.Reports.{TabledAs}
@@ -33,13 +35,14 @@ module _ (jobs library today : List ℕ) where
   open_fitting = asked_fitting jobs library today (λ c m. initial c m)
 
   moved :
-      (r : RoundsTable) (a : Asked Semantics.Run) → TabledAs jobs (fitting library) today a r
+      (r : Result RoundsTable OpenRefusal) (a : Asked Semantics.Run) → TabledAs jobs (fitting library) today a r
       → TabledAs jobs (memory_of library) today a r
   moved r (denies k) h = h
-  moved r (gives x) h = (h.0, λ workers least most. sym (rounds_fitting workers) ∙ h.1 workers least most)
+  moved (Err e) (gives x) h = h
+  moved (Ok t) (gives x) h = λ workers least most. sym (rounds_fitting workers) ∙ h workers least most
 
   pub tabled_by :
-      (memory weights : List ℕ) (r : RoundsTable) → memory ≡ fitting library → weights ≡ today
+      (memory weights : List ℕ) (r : Result RoundsTable OpenRefusal) → memory ≡ fitting library → weights ≡ today
       → TabledAs jobs memory weights (open_asked jobs memory weights) r
       → TabledAs jobs (memory_of library) today (open_asked jobs (memory_of library) today) r
   tabled_by memory weights r e w h =
@@ -70,8 +73,8 @@ module _ (f g : ℕ → ℕ) where
   enough_same zero workers span h = refl
   enough_same (suc more) workers span h =
       let here : f workers ≡ g workers = h workers (omega arith) (omega arith) in
-      ap (λ k. cond (eqb k span) workers (enough_from more (suc workers) span f)) here
-      ∙ ap (λ k. cond (eqb (g workers) span) workers k) (enough_same more (suc workers) span (less more workers h))
+      ap (λ k. cond (eqb k span) (Some workers) (enough_from more (suc workers) span f)) here
+      ∙ ap (λ k. cond (eqb (g workers) span) (Some workers) k) (enough_same more (suc workers) span (less more workers h))
 
   pub lines_same : (calls span : ℕ) → Alike 16 1 → table_lines calls span f ≡ table_lines calls span g
   unfolding table_lines
@@ -81,41 +84,41 @@ module _ (f g : ℕ → ℕ) where
       ∙ ap (λ k. front ++ rows 16 1 calls g ++ enough_line k) (enough_same 16 1 span h)
 
 -- What is printed, by what open answers.
-module _ (jobs library : List ℕ) (r : RoundsTable)
-    (h : TabledAs jobs (memory_of library) fixed_weights (open_asked jobs (memory_of library) fixed_weights) r)
-  where
-    abbrev Case : Type 1
-    Case = AskedCase jobs (memory_of library) fixed_weights
+module _ (jobs library : List ℕ) where
+  abbrev Case : Type 1
+  Case = AskedCase jobs (memory_of library) fixed_weights
 
-    as_open :
-        (a : Asked Semantics.Run) → open_asked jobs (memory_of library) fixed_weights ≡ a
-        → TabledAs jobs (memory_of library) fixed_weights a r
-    as_open a e = subst (λ x. TabledAs jobs (memory_of library) fixed_weights x r) e h
+  abbrev Opens : Result RoundsTable OpenRefusal → Type 0
+  Opens r = TabledAs jobs (memory_of library) fixed_weights (open_asked jobs (memory_of library) fixed_weights) r
 
-    pub text_refused : (open_number r.answer ≡ 0 → ⊥) → rounds_text jobs library ≡ refused_line (open_number r.answer)
-    unfolding rounds_text files_asked rounds_asked open_asked printed
-    text_refused z = sort (asked_case jobs (memory_of library) fixed_weights)
-      where
-        sort : Case → rounds_text jobs library ≡ refused_line (open_number r.answer)
-        sort (denied k some e) =
-            ap (printed (λ workers. rounds_in (files_asked jobs library workers))) (e Report (λ c. report c (memory_of library) 1))
-            ∙ ap refused_line (sym (as_open (denies k) (e Semantics.Run (λ c. initial c (memory_of library)))).number)
-        sort (given l listed fits ok e) =
-            absurd (z (as_open (gives (initial (Semantics.context l fixed_weights) (memory_of library)))
-            (e Semantics.Run (λ c. initial c (memory_of library)))).0)
+  as_open :
+      (r : Result RoundsTable OpenRefusal) (a : Asked Semantics.Run) → Opens r
+      → open_asked jobs (memory_of library) fixed_weights ≡ a → TabledAs jobs (memory_of library) fixed_weights a r
+  as_open r a h e = subst (λ x. TabledAs jobs (memory_of library) fixed_weights x r) e h
 
-    pub text_given :
-        open_number r.answer ≡ 0 → rounds_text jobs library ≡ table_lines (calls_in r) r.span (rounds_at r)
-    unfolding rounds_text files_asked open_asked printed
-    text_given z = sort (asked_case jobs (memory_of library) fixed_weights)
-      where
-        sort : Case → rounds_text jobs library ≡ table_lines (calls_in r) r.span (rounds_at r)
-        sort (denied k some e) =
-            let same : open_number r.answer ≡ k = (as_open (denies k) (e Semantics.Run (λ c. initial c (memory_of library)))).number in
-            let bad : ⊥ = omega (arith, same, z, some) in absurd bad
-        sort (given l listed fits ok e) =
-            let reports = (as_open (gives (initial (Semantics.context l fixed_weights) (memory_of library)))
-            (e Semantics.Run (λ c. initial c (memory_of library)))).1 in
-            ap (printed (λ workers. rounds_in (files_asked jobs library workers))) (reports 1 (omega arith) (omega arith))
-            ∙ lines_same (λ workers. rounds_in (files_asked jobs library workers)) (rounds_at r) (calls_in r) r.span
-            (λ p least most. unfold rounds_in in ap rounds_in (reports p (omega arith) (omega arith)))
+  pub text_refused : (k : OpenRefusal) → Opens (Err k) → rounds_text jobs library ≡ refused_line (open_number k)
+  unfolding rounds_text files_asked rounds_asked open_asked printed
+  text_refused k h = sort (asked_case jobs (memory_of library) fixed_weights)
+    where
+      sort : Case → rounds_text jobs library ≡ refused_line (open_number k)
+      sort (denied j some e) =
+          ap (printed (λ workers. rounds_in (files_asked jobs library workers))) (e Report (λ c. report c (memory_of library) 1))
+          ∙ ap refused_line (sym (as_open (Err k) (denies j) h (e Semantics.Run (λ c. initial c (memory_of library)))))
+      sort (given l listed fits ok e) =
+          absurd (as_open (Err k) (gives (initial (Semantics.context l fixed_weights) (memory_of library))) h
+          (e Semantics.Run (λ c. initial c (memory_of library))))
+
+  pub text_given :
+      (t : RoundsTable) → Opens (Ok t) → rounds_text jobs library ≡ table_lines (calls_in t) t.span (rounds_at t)
+  unfolding rounds_text files_asked open_asked printed
+  text_given t h = sort (asked_case jobs (memory_of library) fixed_weights)
+    where
+      sort : Case → rounds_text jobs library ≡ table_lines (calls_in t) t.span (rounds_at t)
+      sort (denied k some e) =
+          absurd (as_open (Ok t) (denies k) h (e Semantics.Run (λ c. initial c (memory_of library))))
+      sort (given l listed fits ok e) =
+          let reports = as_open (Ok t) (gives (initial (Semantics.context l fixed_weights) (memory_of library))) h
+          (e Semantics.Run (λ c. initial c (memory_of library))) in
+          ap (printed (λ workers. rounds_in (files_asked jobs library workers))) (reports 1 (omega arith) (omega arith))
+          ∙ lines_same (λ workers. rounds_in (files_asked jobs library workers)) (rounds_at t) (calls_in t) t.span
+          (λ p least most. unfold rounds_in in ap rounds_in (reports p (omega arith) (omega arith)))

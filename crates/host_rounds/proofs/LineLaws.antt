@@ -1,19 +1,20 @@
 -- The lines of the table, and how long they are. Assumes nothing.
-use Prim.Native.Nat.{ℕ, zero, suc, ◌+◌, ◌-◌, ◌*◌, ◌/◌, ◌^◌, ◌≤◌, ◌<◌}
+use Prim.Native.Nat.{ℕ, suc, ◌+◌, ◌-◌, ◌*◌, ◌/◌, ◌^◌, ◌≤◌, ◌<◌}
 use mathlib.Core.Path.{◌≡◌, refl, sym, ap, subst, ◌∙◌}
 use mathlib.Core.List.{List, [], ◌∷◌, ◌++◌}
 use mathlib.Core.Bool.{cond}
 use native.Mathlib.Omega.{arith}
+use Rattle.std.specs.Prelude.{Option, Some, None}
 use native.Mathlib.Nat.{mul-le-mul, div-zero}
-use lib.ListN.{length, get_or}
+use lib.ListN.{length}
 use lib.Seq.{sets}
 use lib.Dec.{eqb}
 use borrow.Author.Tests.{eq-eqb, ne_eqb}
 use Rattle.model_rounds.specs.Rounds.{most_rounds, most_workers}
 use Rattle.run_rounds.specs.declared.RoundsTable.{RoundsTable}
-use Rattle.run_rounds.specs.Reports.{most_calls}
+use Rattle.run_rounds.specs.Reports.{most_calls, tally_at}
 use Rattle.wording.specs.Wording.{followed, line}
-use Rattle.host_rounds.specs.Lines.{used, row, rows, enough_from, calls_word, span_word, enough_word, none_line, enough_line, table_lines}
+use Rattle.host_rounds.specs.Lines.{used, row, rows, enough_from, calls_word, span_word, enough_line, table_lines}
 use Rattle.wording.specs.Promises.{PutAt}
 use Rattle.host_rounds.specs.Promises.{rounds_at, calls_in}
 use Rattle.wording.proofs.PutLaws.{put_then, put_rest, put_over, put_at, put_by}
@@ -104,39 +105,30 @@ module _ (calls : ℕ) (rounds : ℕ → ℕ) where
 
 -- The least number of workers that is enough, of those that are left.
 module _ (span : ℕ) (rounds : ℕ → ℕ) where
-  abbrev pub enough_left : ℕ → ℕ
+  abbrev pub enough_left : ℕ → Option ℕ
   enough_left i = enough_from (16 - i) (i + 1) span rounds
 
-  by_test : (i : ℕ) → i < 16 → enough_left i ≡ cond (eqb (rounds (i + 1)) span) (i + 1) (enough_left (i + 1))
+  by_test : (i : ℕ) → i < 16 → enough_left i ≡ cond (eqb (rounds (i + 1)) span) (Some (i + 1)) (enough_left (i + 1))
   unfolding enough_from
   by_test i h =
       let one : 16 - i ≡ suc (16 - (i + 1)) = omega arith in
       let next : suc (i + 1) ≡ i + 1 + 1 = omega arith in
       ap (λ k. enough_from k (i + 1) span rounds) one
-      ∙ ap (λ k. cond (eqb (rounds (i + 1)) span) (i + 1) (enough_from (16 - (i + 1)) k span rounds)) next
+      ∙ ap (λ k. cond (eqb (rounds (i + 1)) span) (Some (i + 1)) (enough_from (16 - (i + 1)) k span rounds)) next
 
-  pub enough_found : (i : ℕ) → i < 16 → rounds (i + 1) ≡ span → enough_left i ≡ i + 1
-  enough_found i h q = by_test i h ∙ ap (λ b. cond b (i + 1) (enough_left (i + 1))) (eq-eqb (rounds (i + 1)) span q)
+  pub enough_found : (i : ℕ) → i < 16 → rounds (i + 1) ≡ span → enough_left i ≡ Some (i + 1)
+  enough_found i h q = by_test i h ∙ ap (λ b. cond b (Some (i + 1)) (enough_left (i + 1))) (eq-eqb (rounds (i + 1)) span q)
 
   pub enough_on : (i : ℕ) → i < 16 → (rounds (i + 1) ≡ span → ⊥) → enough_left i ≡ enough_left (i + 1)
-  enough_on i h q = by_test i h ∙ ap (λ b. cond b (i + 1) (enough_left (i + 1))) (ne_eqb (rounds (i + 1)) span q)
+  enough_on i h q = by_test i h ∙ ap (λ b. cond b (Some (i + 1)) (enough_left (i + 1))) (ne_eqb (rounds (i + 1)) span q)
 
-  pub enough_none : enough_left 16 ≡ 0
+  pub enough_none : enough_left 16 ≡ None
   unfolding enough_from
   enough_none = refl
 
-pub enough_zero : (n : ℕ) → n ≡ 0 → enough_line n ≡ enough_word ++ none_line
-unfolding enough_line
-enough_zero n z = ap enough_line z
-
-pub enough_some : (n : ℕ) → (n ≡ 0 → ⊥) → enough_line n ≡ enough_word ++ line n
-unfolding enough_line
-enough_some zero z = absurd (z refl)
-enough_some (suc n) z = refl
-
 -- all lines, part by part
 pub table_put :
-    (calls span : ℕ) (rounds : ℕ → ℕ) (w : ℕ) → w ≡ enough_from 16 1 span rounds
+    (calls span : ℕ) (rounds : ℕ → ℕ) (w : Option ℕ) → w ≡ enough_from 16 1 span rounds
     → {out out₁ out₂ out₃ out₄ out₅ out₆ : List ℕ} {first second third fourth fifth stop : ℕ} → PutAt calls_word out 0 out₁ first
     → PutAt (line calls) out₁ first out₂ second → PutAt span_word out₂ second out₃ third → PutAt (line span) out₃ third out₄ fourth
     → PutAt (rows 16 1 calls rounds) out₄ fourth out₅ fifth → PutAt (enough_line w) out₅ fifth out₆ stop
@@ -146,24 +138,18 @@ table_put calls span rounds w q {out₅ = out₅} {out₆ = out₆} {fifth = fif
     put_then (put_then (put_then (put_then (put_then a b) d) e) f) (subst (λ k. PutAt (enough_line k) out₅ fifth out₆ stop) q g)
 
 -- the place of a number of workers in a table
-pub rounds_here : (r : RoundsTable) (i : ℕ) → rounds_at r (i + 1) ≡ get_or r.rounds i 0
-rounds_here r i = let one : i + 1 - 1 ≡ i = omega arith in ap (λ k. get_or r.rounds k 0) one
+pub rounds_here : (r : RoundsTable) (i : ℕ) → rounds_at r (i + 1) ≡ (tally_at r i).rounds
+rounds_here r i = let one : i + 1 - 1 ≡ i = omega arith in ap (λ k. (tally_at r k).rounds) one
 
 -- the same in the code's terms: the line of the place i, and all lines
-module _ (r : RoundsTable) (before : List ℕ) (at : ℕ) (out : List ℕ) (stop i : ℕ) (calls : ℕ) where
+module _ (r : RoundsTable) (before : List ℕ) (at : ℕ) (out : List ℕ) (stop i : ℕ) where
   pub lines_row :
-      LinesPut calls (rounds_at r) before at out stop i → i < 16 → (percent : ℕ) → percent ≡ used calls (i + 1) (get_or r.rounds i 0)
-      → (new : List ℕ) (next : ℕ) → PutAt (row (i + 1) (get_or r.rounds i 0) percent) out stop new next → next ≤ stop + 34
-      → LinesPut calls (rounds_at r) before at new next (i + 1)
-  lines_row l below percent q new next p most =
-      lines_more calls (rounds_at r) before at out stop i l below new next
-      (subst (λ k. PutAt (row (i + 1) k (used calls (i + 1) k)) out stop new next) (sym (rounds_here r i))
-      (subst (λ k. PutAt (row (i + 1) (get_or r.rounds i 0) k) out stop new next) q p))
+      LinesPut (calls_in r) (rounds_at r) before at out stop i → i < 16 → (rounds : ℕ) → rounds ≡ (tally_at r i).rounds → (percent : ℕ)
+      → percent ≡ used (calls_in r) (i + 1) rounds → (new : List ℕ) (next : ℕ)
+      → PutAt (row (i + 1) rounds percent) out stop new next → next ≤ stop + 34
+      → LinesPut (calls_in r) (rounds_at r) before at new next (i + 1)
+  lines_row l below rounds e percent q new next p most =
+      lines_more (calls_in r) (rounds_at r) before at out stop i l below new next
+      (subst (λ k. PutAt (row (i + 1) k (used (calls_in r) (i + 1) k)) out stop new next) (e ∙ sym (rounds_here r i))
+      (subst (λ k. PutAt (row (i + 1) rounds k) out stop new next) q p))
       most
-
-  pub lines_whole :
-      calls ≡ calls_in r → LinesPut calls (rounds_at r) before at out stop i → 16 ≤ i
-      → PutAt (rows 16 1 (calls_in r) (rounds_at r)) before at out stop × (stop ≤ at + 544)
-  lines_whole q l over =
-      let all = lines_all calls (rounds_at r) before at out stop i l over in
-      (subst (λ k. PutAt (rows 16 1 k (rounds_at r)) before at out stop) q all.0, all.1)

@@ -1,6 +1,6 @@
 -- What the program rounds prints: request 111 for each number of workers, 1 to 16, in lines. Bytes are numbers: 10 is a line feed,
 -- 32 a space, 37 the sign %.
-use Rattle.std.specs.Prelude.{ℕ, zero, suc, ◌*◌, ◌/◌, List, [], ◌∷◌, ◌++◌, cond, eqb}
+use Rattle.std.specs.Prelude.{ℕ, zero, suc, ◌*◌, ◌/◌, List, [], ◌∷◌, ◌++◌, cond, eqb, Option, Some, None}
 use Rattle.library.specs.Library.{memory_of}
 use Rattle.semantics.specs.Run.{fixed_weights}
 use Rattle.semantics.specs.Operations.{Asked, denies, gives}
@@ -20,11 +20,11 @@ unfoldable pub rows : ℕ → ℕ → ℕ → (ℕ → ℕ) → List ℕ
 rows zero workers calls rounds = []
 rows (suc more) workers calls rounds = row workers (rounds workers) (used calls workers (rounds workers)) ++ rows more (suc workers) calls rounds
 
--- the least of so many numbers of workers, from one on, whose rounds equal the span; 0 where there is none
-unfoldable pub enough_from : ℕ → ℕ → ℕ → (ℕ → ℕ) → ℕ
-enough_from zero workers span rounds = 0
+-- the least of so many numbers of workers, from one on, whose rounds equal the span, if there is one
+unfoldable pub enough_from : ℕ → ℕ → ℕ → (ℕ → ℕ) → Option ℕ
+enough_from zero workers span rounds = None
 enough_from (suc more) workers span rounds =
-    cond (eqb (rounds workers) span) workers (enough_from more (suc workers) span rounds)
+    cond (eqb (rounds workers) span) (Some workers) (enough_from more (suc workers) span rounds)
 
 -- `calls `, `span `, `enough ` and `none`, the last with the line's end
 abbrev pub calls_word : List ℕ
@@ -40,9 +40,9 @@ abbrev pub none_line : List ℕ
 none_line = 110 ∷ 111 ∷ 110 ∷ 101 ∷ 10 ∷ []
 
 -- `enough W`, or `enough none`
-unfoldable pub enough_line : ℕ → List ℕ
-enough_line zero = enough_word ++ none_line
-enough_line (suc more) = enough_word ++ line (suc more)
+unfoldable pub enough_line : Option ℕ → List ℕ
+enough_line None = enough_word ++ none_line
+enough_line (Some workers) = enough_word ++ line workers
 
 -- `calls C`, `span S`, the lines of 1 to 16 workers, `enough W`
 unfoldable pub table_lines : ℕ → ℕ → (ℕ → ℕ) → List ℕ

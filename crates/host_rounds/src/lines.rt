@@ -6,19 +6,16 @@ ghost use Rattle.wording.specs.Promises.{PutAt};
 ghost use Rattle.host_rounds.specs.Lines.{used, row, rows};
 ghost use Rattle.host_rounds.specs.Promises.{rounds_at, calls_in};
 
-use run_rounds::{REPORTS, RoundsTable};
+use run_rounds::RoundsTable;
 use wording::{put_number, put_word};
 
 // How much of the workers' time is used, in whole percent.
+#[tactic(auto, using(crate::proofs::LineLaws::few_time, crate::proofs::LineLaws::no_time), unfolding(crate::specs::Lines::used))]
 fn percent_used(calls: u32, workers: u32, rounds: u32) -> u32
     requires { (calls ≤ most_calls) × (workers ≤ most_workers) × (rounds ≤ most_rounds) }
     ensures { result ≡ used calls workers rounds }
 {
-    let time = workers * rounds;
-    if time == 0 {
-        return 0;
-    }
-    100 * calls / time
+    (100 * calls).checked_div(workers * rounds).unwrap_or(0)
 }
 
 // Puts a line of the table: workers, rounds, how much of the workers' time is used.
@@ -39,20 +36,12 @@ pub fn put_rows(table: RoundsTable, out: &mut [u8], at: usize) -> usize
     ensures put { PutAt (rows most_workers 1 (calls_in table) (rounds_at table)) out.old at out.new result }
     ensures most { result ≤ at + 544 }
 {
-    let calls = table.calls[0];
+    let calls = table.reports[0].calls;
     let mut stop = at;
-    let mut i = 0;
-    while i < REPORTS {
-        let rounds = table.rounds[i];
+    for (i, report) in table.reports.iter().enumerate() {
         let workers = i as u32 + 1;
-        stop = put_row(
-            out,
-            stop,
-            workers,
-            rounds,
-            percent_used(calls, workers, rounds),
-        );
-        i += 1;
+        let percent = percent_used(calls, workers, report.rounds);
+        stop = put_row(out, stop, workers, report.rounds, percent);
     }
     stop
 }

@@ -1,5 +1,5 @@
 // The whole table: calls and span, the lines, how many workers are enough.
-ghost use Rattle.std.specs.Prelude.{◌+◌, ◌≤◌, ◌≡◌, length};
+ghost use Rattle.std.specs.Prelude.{◌+◌, ◌≤◌, ◌≡◌, length, IfOk};
 ghost use Rattle.library.specs.Library.{memory_of};
 ghost use Rattle.semantics.specs.Run.{fixed_weights};
 ghost use Rattle.semantics.specs.Operations.{open_asked};
@@ -11,35 +11,34 @@ ghost use Rattle.host_rounds.specs.Promises.{rounds_at, calls_in};
 
 use crate::ROOM;
 use crate::lines::put_rows;
-use run_rounds::{REPORTS, RoundsTable};
-use wording::{open_line, open_number, put_number, put_word};
+use run_rounds::RoundsTable;
+use runtime::OpenRefusal;
+use wording::{open_line, put_number, put_word};
 
-// The least number of workers whose rounds equal the span; 0 where more than 16 would help.
-fn enough(table: RoundsTable) -> u32
+// The least number of workers whose rounds equal the span; none where more than 16 would help.
+fn enough(table: RoundsTable) -> Option<u32>
     requires { TableSize table }
     ensures { result ≡ enough_from most_workers 1 table.span (rounds_at table) }
 {
-    let mut i = 0;
-    while i < REPORTS {
-        if table.rounds[i] == table.span {
-            return i as u32 + 1;
+    for (i, report) in table.reports.iter().enumerate() {
+        if report.rounds == table.span {
+            return Some(i as u32 + 1);
         }
-        i += 1;
     }
-    0
+    None
 }
 
 // Puts the last line.
-fn put_enough(out: &mut [u8], at: usize, workers: u32) -> usize
+fn put_enough(out: &mut [u8], at: usize, workers: Option<u32>) -> usize
     requires { at + 18 ≤ length out.old }
     ensures put { PutAt (enough_line workers) out.old at out.new result }
     ensures most { result ≤ at + 18 }
 {
     let behind = put_word(out, at, b"enough ");
-    if workers == 0 {
-        return put_word(out, behind, b"none\n");
+    match workers {
+        Some(count) => put_number(out, behind, count, b'\n'),
+        None => put_word(out, behind, b"none\n"),
     }
-    put_number(out, behind, workers, b'\n')
 }
 
 // Puts all lines at the front.
@@ -49,7 +48,7 @@ fn put_table(table: RoundsTable, out: &mut [u8]) -> usize
     ensures most { result ≤ room }
 {
     let first = put_word(out, 0, b"calls ");
-    let second = put_number(out, first, table.calls[0], b'\n');
+    let second = put_number(out, first, table.reports[0].calls, b'\n');
     let third = put_word(out, second, b"span ");
     let fourth = put_number(out, third, table.span, b'\n');
     let fifth = put_rows(table, out, fourth);
@@ -57,15 +56,12 @@ fn put_table(table: RoundsTable, out: &mut [u8]) -> usize
 }
 
 // The reports of a job list with the numbers of a library, four bytes for each, under today's weights.
-fn files_table(jobs: &[u8], numbers: &[u8]) -> RoundsTable
-    ensures size { TableSize result }
+fn files_table(jobs: &[u8], numbers: &[u8]) -> Result<RoundsTable, OpenRefusal>
+    ensures size { IfOk result TableSize }
     ensures reports { TabledAs jobs.now (memory_of numbers.now) fixed_weights (open_asked jobs.now (memory_of numbers.now) fixed_weights) result }
 {
-    let read = library::read_numbers(numbers);
-    let values = read.values;
-    let count = read.count;
-    let weights = fresh::todays_weights();
-    run_rounds::rounds_table(jobs, &values[..count], &weights)
+    let memory = library::read_numbers(numbers);
+    run_rounds::rounds_table(jobs, memory.as_slice(), &fresh::todays_weights())
 }
 
 // All that is printed for the bytes of the two files, at the front of `out`. Nothing where `out` has fewer than
@@ -76,10 +72,8 @@ pub fn rounds_lines(jobs: &[u8], numbers: &[u8], out: &mut [u8]) -> usize
     if out.len() < ROOM {
         return 0;
     }
-    let table = files_table(jobs, numbers);
-    let answer = table.answer;
-    if open_number(answer) == 0 {
-        return put_table(table, out);
+    match files_table(jobs, numbers) {
+        Ok(table) => put_table(table, out),
+        Err(refusal) => open_line(refusal, out),
     }
-    open_line(answer, out)
 }

@@ -6,23 +6,25 @@ use mathlib.Core.Bool.{Bool, true, false, cond, not}
 use native.Mathlib.Omega.{arith}
 use native.Mathlib.Nat.{zero-add}
 use lib.ListN.{length, take, drop, get_or, length-take}
-use lib.Seq.{sets, sets-eq, get_or-take, take-take}
+use lib.Seq.{sets, sets-eq, take-take}
 use lib.Dec.{eqb}
+use lib.ListN.{length-append}
+use Rattle.std.specs.List.{count_by}
+use Rattle.std.proofs.lemmas.List.Sums.{sum_by-cons}
+use Rattle.std.proofs.lemmas.List.{take_min}
 use borrow.Author.Tests.{lt-ltb, le-ltb, le-leb, lt-leb, eq-eqb, ne_eqb}
 use Rattle.tasklist.specs.Encode.{joined}
 use Rattle.tasklist.specs.Tables.{list_of}
 use Rattle.tasklist.specs.Answers as Listed
-use Rattle.tasklist.proofs.WriterLaws.{rest_from, rest_length, rest_none}
 use Rattle.tasklist.proofs.PlaceLaws.{get_d_default}
 use Rattle.semantics.specs.declared.CallRefusal.TheVariants as Refusals
 use Rattle.semantics.specs.Run.{mode_of, task_of}
 use Rattle.semantics.specs.Run as Semantics
 use Rattle.semantics.specs.Access.{Access, only, queue}
 use Rattle.semantics.specs.Operations.{denies, gives, record_asked, queue_places, queue_asked, search_asked}
-use Rattle.semantics.specs.Answers.{refusal_number, task_from}
+use Rattle.semantics.specs.Answers.{task_from}
 use Rattle.semantics.proofs.Order.{among_in}
-use Rattle.arrays.specs.declared.Place.{Place}
-use Rattle.arrays.specs.declared.Place.TheVariants as Places
+use Rattle.std.specs.Prelude.{Option, Some, None, Ok, Err}
 use Rattle.ahead.specs.declared.Searched.{Searched}
 use Rattle.arrays.specs.Rows.{row}
 use Rattle.arrays.specs.Places.{place_of}
@@ -30,7 +32,6 @@ use Rattle.ahead.specs.Ahead.{searched_ahead, found_of}
 use Rattle.arrays.proofs.SpliceLaws.{placed, unplaced}
 use Rattle.ahead.proofs.SearchLaws.{search_by}
 use Rattle.runtime.specs.declared.Run.{Run}
-use Rattle.runtime.specs.declared.Queued.TheVariants as Queueing
 use Rattle.plans.specs.View.{blank_record, no_record, model as parts_model}
 use Rattle.runtime.specs.View.{model, context_of}
 use Rattle.runtime.specs.Parts.{record_of, shown, shown_at, all_shown}
@@ -45,35 +46,34 @@ pub shown_one : (k mode : ℕ) → (mode ≡ 0 → ⊥) → shown k mode ≡ (k 
 unfolding shown
 shown_one k mode h = rw (ne_eqb mode 0 h) refl
 
--- what the code reads at place i of the order
-module _ (run : Run) (location : ℕ) (whole : length run.order ≡ 128) (i left : ℕ) (l : left ≡ min run.left 128) (h : i < left) where
-  pub in_order : i < length (take run.left run.order)
-  in_order = omega (arith, length-take run.left run.order)
+-- those that are shown are counted
+one_shown : (k mode : ℕ) (b : Bool) → eqb mode 0 ≡ b → cond (not (eqb mode 0)) 1 0 ≡ length (shown k mode)
+unfolding shown
+one_shown k mode true q = rw q refl
+one_shown k mode false q = rw q refl
 
-  pub shown_here :
-      (task mode : ℕ) → task ≡ get_or run.order i 0 → mode ≡ get_or (row task run.modes) location 0
-      → shown_at run location (get_or (take run.left run.order) i 0) ≡ shown task mode
-  shown_here task mode t m =
-      ap (shown_at run location) (get_or-take run.left run.order i 0 (omega arith) ∙ sym t)
-      ∙ ap (shown task) (sym m)
+shown_length :
+    (run : Run) (location : ℕ) (l : List ℕ)
+    → count_by (λ k. not (eqb (get_or (row k run.modes) location 0) 0)) l ≡ length (joined (shown_at run location) l)
+unfolding joined
+shown_length run location [] = refl
+shown_length run location (k ∷ l) =
+    let mode = get_or (row k run.modes) location 0 in
+    let rest = count_by (λ k. not (eqb (get_or (row k run.modes) location 0) 0)) l in
+    sum_by-cons (λ k. cond (not (eqb (get_or (row k run.modes) location 0) 0)) 1 0) k l
+    ∙ ap (λ n. n + rest) (one_shown k mode (eqb mode 0) refl)
+    ∙ ap (λ n. length (shown k mode) + n) (shown_length run location l)
+    ∙ sym (length-append (shown k mode) (joined (shown_at run location) l))
 
-  pub count_more :
-      (n step task mode : ℕ) → task ≡ get_or run.order i 0 → mode ≡ get_or (row task run.modes) location 0
-      → step ≡ length (shown task mode)
-      → n + length (rest_from (shown_at run location) (take run.left run.order) i) ≡ length (all_shown run location)
-      → n + step + length (rest_from (shown_at run location) (take run.left run.order) (i + 1)) ≡ length (all_shown run location)
-  count_more n step task mode t m s e =
-      let q = rest_length (shown_at run location) (take run.left run.order) i 0 in_order in
-      let p = ap length (shown_here task mode t m) in
-      omega (arith, q, p, s, e)
+pub in_queue : (left : ℕ) (order : List ℕ) → length order ≡ 128 → take (min left 128) order ≡ take left order
+in_queue left order whole = ap (λ k. take (min left k) order) (sym whole) ∙ take_min left order
 
-pub count_done :
-    (run : Run) (location i n : ℕ) → length run.order ≡ 128 → min run.left 128 ≤ i
-    → n + length (rest_from (shown_at run location) (take run.left run.order) i) ≡ length (all_shown run location)
-    → n ≡ length (all_shown run location)
-count_done run location i n w h e =
-    let q = ap length (rest_none (shown_at run location) (take run.left run.order) i (omega (arith, length-take run.left run.order))) in
-    omega (arith, q, e)
+pub count_shown :
+    (run : Run) (location left : ℕ) → length run.order ≡ 128 → left ≡ min run.left 128
+    → count_by (λ k. not (eqb (get_or (row k run.modes) location 0) 0)) (take left run.order) ≡ length (all_shown run location)
+count_shown run location left whole q =
+    shown_length run location (take left run.order)
+    ∙ ap (λ l. length (joined (shown_at run location) l)) (ap (λ k. take k run.order) q ∙ in_queue run.left run.order whole)
 
 -- the model's places are those of the code
 module _ (r : Semantics.Run) (a : ℕ) (mode : ℕ → ℕ) (same : (k : ℕ) → mode k ≡ mode_of (task_of r k) a) where
@@ -107,15 +107,15 @@ queue_shown run a r m =
 module _ (run : Run) (a : ℕ) (out : List ℕ) where
   pub queue_outside :
       run.tables.locations ≤ a
-      → QueuedAs (queue_asked (context_of run) (model run) a (length out)) out out (Queueing.Refused Refusals.Location)
-  unfolding queue_asked list_of queued queue_answer queue_out refusal_number
+      → QueuedAs (queue_asked (context_of run) (model run) a (length out)) out out (Err Refusals.Location)
+  unfolding queue_asked list_of queued queue_answer queue_out
   queue_outside h = let t = le-ltb a run.tables.locations h in record { answer = rw t refl; places = rw t refl }
 
   module _ (inside : a < run.tables.locations) (r : length run.records ≡ 128) (m : length run.modes ≡ 8192) where
     pub queue_short :
         length out < length (all_shown run a)
-        → QueuedAs (queue_asked (context_of run) (model run) a (length out)) out out (Queueing.Refused Refusals.Short)
-    unfolding queue_asked list_of queued queue_answer queue_out refusal_number
+        → QueuedAs (queue_asked (context_of run) (model run) a (length out)) out out (Err Refusals.Short)
+    unfolding queue_asked list_of queued queue_answer queue_out
     queue_short h =
         let t = lt-ltb a run.tables.locations inside in
         let p = queue_shown run a r m in
@@ -124,7 +124,7 @@ module _ (run : Run) (a : ℕ) (out : List ℕ) where
 
     pub queue_put :
         (new : List ℕ) (n : ℕ) → n ≡ length (all_shown run a) → length (all_shown run a) ≤ length out → new ≡ sets out 0 (all_shown run a)
-        → QueuedAs (queue_asked (context_of run) (model run) a (length out)) out new (Queueing.Places n)
+        → QueuedAs (queue_asked (context_of run) (model run) a (length out)) out new (Ok n)
     unfolding queue_asked list_of queued queue_answer queue_out
     queue_put new n k h e =
         let t = lt-ltb a run.tables.locations inside in
@@ -159,15 +159,15 @@ module _ (run : Run) (n : ℕ) (gs : List Access) where
   unfolding search_asked
   search_beyond h = sym (rw (le-ltb n 128 (omega arith)) refl)
 
-  module _ (below : n < 128) (p : Place) (found : p ≡ place_of n (take run.left run.order)) where
-    pub search_absent : p ≡ Places.Absent → denies 10 ≡ search_asked (model run) n gs
+  module _ (below : n < 128) (p : Option ℕ) (found : p ≡ place_of n (take run.left run.order)) where
+    pub search_absent : p ≡ None → denies 10 ≡ search_asked (model run) n gs
     unfolding search_asked parts_model
     search_absent q =
         let none = unplaced n (take run.left run.order) (sym found ∙ q) in
         sym (rw (lt-ltb n 128 below, none) refl)
 
     pub search_given :
-        (at : ℕ) → p ≡ Places.At at → length run.records ≡ 128 → length run.modes ≡ 8192 → (s : Searched)
+        (at : ℕ) → p ≡ Some at → length run.records ≡ 128 → length run.modes ≡ 8192 → (s : Searched)
         → s ≡ searched_ahead run.modes (take at run.order) gs → gives (found_of s) ≡ search_asked (model run) n gs
     unfolding search_asked parts_model
     search_given at q r m s e =

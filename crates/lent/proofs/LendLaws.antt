@@ -1,159 +1,241 @@
 -- What each turn of the lender keeps: the calls and lines from here on are those from the beginning. Assumes nothing.
-use Prim.Native.Nat.{ℕ, zero, suc, ◌+◌, ◌*◌, ◌<◌}
-use mathlib.Core.Path.{◌≡◌, refl, sym, ap, subst, ◌∙◌}
-use mathlib.Core.List.{List, [], ◌∷◌, ◌++◌, append-nil, append_assoc}
-use mathlib.Core.Bool.{Bool, true, false}
-use native.Mathlib.Omega.{arith}
-use native.Mathlib.Nat.{mul-suc}
-use lib.ListN.{take, drop}
-use lib.Seq.{drop-drop}
+use Rattle.std.proofs.Common.{ℕ, zero, suc, ◌+◌, ◌*◌, ◌<◌, ◌≤◌, ◌≡◌, refl, sym, ap, subst, ◌∙◌, List, [], ◌∷◌, ◌++◌, arith, length, get_or, set, min, take, drop, append_assoc}
+use mathlib.Core.List.{append-nil}
+use Rattle.std.proofs.lemmas.List.{take_more_set, take_min, length-take}
+use lib.ListN.{length-set, length-append}
+use Rattle.std.specs.Int.{div_ceil}
+use Rattle.std.proofs.Math.Nat.{min_comm}
 use Rattle.semantics.specs.Run.{Context}
 use Rattle.semantics.specs.Run as Semantics
 use Rattle.semantics.specs.Call.{after_all}
-use Rattle.semantics.specs.declared.Answer.{Answer}
-use Rattle.semantics.specs.Plan.{start, step, «end»}
-use Rattle.semantics.specs.Answers.{answer_number}
 use Rattle.runtime.specs.declared.Run.{Run}
 use Rattle.runtime.specs.View.{model, context_of, SoundRun}
 use Rattle.runtime.specs.Calls.{calls_of_kind, CallsMade}
-use Rattle.lent.specs.declared.Piece.{Piece}
-use Rattle.lent.specs.declared.Lent.{Lent}
-use Rattle.lent.specs.Handed.{CalledIn}
 use Rattle.lent.specs.Lines.{calls_in, line, lines}
-use Rattle.lent.specs.Pieces.{rest, said, Facing, Ready, NotedAs, PieceOf, LentAs, LentOf}
+use Rattle.lent.specs.Pieces.{LentOf}
 use Rattle.runtime.proofs.ViewLaws.{same_context}
-use Rattle.runtime.proofs.CallLaws.{one_call}
-use Rattle.runtime.proofs.MadeLaws.{no_calls, calls_append, kind_start, kind_step, kind_end, other_kind, kind_none}
-use Rattle.lent.proofs.PieceLaws.{false_true}
+use Rattle.runtime.proofs.MadeLaws.{no_calls, calls_append, kind_none}
 
-twice : (t : ℕ) → 2 * t + 2 ≡ 2 * suc t
-twice t = omega (arith, mul-suc 2 t)
+-- two bytes, and one
+two_bytes : (l : List ℕ) → length l ≡ 2 → l ≡ get_or l 0 0 ∷ get_or l 1 0 ∷ []
+two_bytes (k ∷ n ∷ []) e = refl
+two_bytes [] e = absurd (omega arith)
+two_bytes (k ∷ []) e = absurd (omega arith)
+two_bytes (k ∷ n ∷ m ∷ l) e = absurd (omega arith)
 
--- the run `h` and the piece `p` after some turns from the run `from` and the piece `p₀`
-pub record Inv (p₀ : Piece) (from h : Run) (p : Piece) : Type 0 where
+pub half_made : (l : List ℕ) → length l < 2 → (r : Run) → CallsMade (calls_in l) r r
+unfolding calls_in
+half_made [] h r = no_calls r
+half_made (k ∷ []) h r = no_calls r
+half_made (k ∷ n ∷ l) h r = absurd (omega arith)
+
+pub half_line : (l : List ℕ) → length l < 2 → 0 < length l → (c : Context) (m : Semantics.Run) → 18 ∷ [] ≡ lines c m l
+unfolding lines
+half_line [] h k c m = absurd (omega arith)
+half_line (k ∷ []) h _ c m = refl
+half_line (k ∷ n ∷ l) h _ c m = absurd (omega arith)
+
+-- a call of two bytes: what is made of it, and its line
+module _ (l : List ℕ) (two : length l ≡ 2) (kind n : ℕ) (first : get_or l 0 0 ≡ kind) (second : n ≡ get_or l 1 0) where
+  bytes_are : l ≡ kind ∷ n ∷ []
+  bytes_are = two_bytes l two ∙ ap (λ k. k ∷ get_or l 1 0 ∷ []) first ∙ ap (λ m. kind ∷ m ∷ []) (sym second)
+
+  pub pair_made : (from to : Run) → CallsMade (calls_of_kind kind n) from to → CallsMade (calls_in l) from to
+  unfolding calls_in
+  pair_made from to m =
+      subst (λ b. CallsMade b from to) (sym (ap calls_in bytes_are ∙ append-nil (calls_of_kind kind n))) m
+
+  pub pair_line : (x : ℕ) (c : Context) (m : Semantics.Run) → x ≡ line c m kind n → x ∷ [] ≡ lines c m l
+  unfolding lines
+  pair_line x c m e = ap (λ y. y ∷ []) e ∙ sym (ap (lines c m) bytes_are)
+
+  -- a call that is none of the three
+  module _ (other : (kind ≡ 0 → ⊥) × (kind ≡ 1 → ⊥) × (kind ≡ 2 → ⊥)) where
+    pub stray_made : (r : Run) → CallsMade (calls_in l) r r
+    stray_made r = pair_made r r (kind_none r kind n other.0 other.1 other.2)
+
+    no_line : (k : ℕ) (c : Context) (m : Semantics.Run) → (k ≡ 0 → ⊥) → (k ≡ 1 → ⊥) → (k ≡ 2 → ⊥) → 18 ≡ line c m k n
+    unfolding line
+    no_line zero c m p q s = absurd (p refl)
+    no_line (suc zero) c m p q s = absurd (q refl)
+    no_line (suc (suc zero)) c m p q s = absurd (s refl)
+    no_line (suc (suc (suc k))) c m p q s = refl
+
+    pub stray_line : (c : Context) (m : Semantics.Run) → 18 ∷ [] ≡ lines c m l
+    stray_line c m = pair_line 18 c m (no_line kind c m other.0 other.1 other.2)
+
+-- the first call, and those behind it
+calls_apart : (l : List ℕ) → calls_in l ≡ calls_in (take 2 l) ++ calls_in (drop 2 l)
+unfolding calls_in
+calls_apart [] = refl
+calls_apart (k ∷ []) = refl
+calls_apart (k ∷ n ∷ bytes) = ap (λ l. l ++ calls_in bytes) (sym (append-nil (calls_of_kind k n)))
+
+lines_apart :
+    (c : Context) (r : Semantics.Run) (l : List ℕ)
+    → lines c r l ≡ lines c r (take 2 l) ++ lines c (after_all c r (calls_in (take 2 l))) (drop 2 l)
+unfolding lines calls_in
+lines_apart c r [] = refl
+lines_apart c r (k ∷ []) = refl
+lines_apart c r (k ∷ n ∷ bytes) = ap (λ l. line c r k n ∷ lines c (after_all c r l) bytes) (sym (append-nil (calls_of_kind k n)))
+
+-- the run `h` and the numbers said after some calls of the bytes `whole` on the run `from`, where `rest` is left
+pub record Inv (whole : List ℕ) (from h : Run) (said rest : List ℕ) : Type 0 where
   pub list : h.tables ≡ from.tables
   pub weights : h.weights ≡ from.weights
   pub sound : SoundRun from → SoundRun h
-  pub ready : Ready p₀ → Ready p
-  pub made : Ready p₀ → (r : Run) → CallsMade (calls_in (rest p)) h r → CallsMade (calls_in (rest p₀)) from r
-  pub lines : Ready p₀ → SoundRun from → said p ++ lines (context_of from) (model h) (rest p) ≡ said p₀ ++ lines (context_of from) (model from) (rest p₀)
+  pub made : (r : Run) → CallsMade (calls_in rest) h r → CallsMade (calls_in whole) from r
+  pub lines : SoundRun from → said ++ lines (context_of from) (model h) rest ≡ lines (context_of from) (model from) whole
 
-pub begins : (p : Piece) (from : Run) → Inv p from from p
-begins p from = record { list = refl; weights = refl; sound = λ s. s; ready = λ y. y; made = λ y r m. m; lines = λ y s. refl }
-
--- the first two bytes at hand, one of them, or none
-over : (l : List ℕ) (more : Bool) (kind task : ℕ) → Facing l more kind task → more ≡ false → l ≡ []
-unfolding Facing
-over [] more kind task f e = refl
-over (k ∷ []) more kind task f e = absurd (false_true (sym e ∙ f.0))
-over (k ∷ n ∷ bytes) more kind task f e = absurd (false_true (sym e ∙ f.0))
-
-no_kind : (kind task : ℕ) → 2 < kind → calls_of_kind kind task ≡ []
-no_kind kind task h = other_kind kind task (λ e. omega (arith, h, e)) (λ e. omega (arith, h, e)) (λ e. omega (arith, h, e))
-
-no_line : (c : Context) (r : Semantics.Run) (kind task : ℕ) → (kind ≡ 0 → ⊥) → (kind ≡ 1 → ⊥) → (kind ≡ 2 → ⊥) → line c r kind task ≡ 18
-unfolding line
-no_line c r zero task p q s = absurd (p refl)
-no_line c r (suc zero) task p q s = absurd (q refl)
-no_line c r (suc (suc zero)) task p q s = absurd (s refl)
-no_line c r (suc (suc (suc k))) task p q s = refl
-
--- a turn, of the calls and of the lines
-turn_made :
-    (l : List ℕ) (more : Bool) (kind task : ℕ) → Facing l more kind task → more ≡ true → (h h' r : Run)
-    → CallsMade (calls_of_kind kind task) h h' → CallsMade (calls_in (drop 2 l)) h' r → CallsMade (calls_in l) h r
-unfolding Facing calls_in
-turn_made [] more kind task f e h h' r m k = absurd (false_true (sym f ∙ e))
-turn_made (a ∷ []) more kind task f e h h' r m k =
-    calls_append [] [] h h' r (subst (λ cs. CallsMade cs h h') (no_kind kind task f.1) m) k
-turn_made (a ∷ n ∷ bytes) more kind task f e h h' r m k =
-    calls_append (calls_of_kind a n) (calls_in bytes) h h' r (subst (λ j. CallsMade (calls_of_kind a j) h h') f.1.1 (subst (λ j. CallsMade (calls_of_kind j task) h h') f.1.0 m)) k
-
-turn_lines :
-    (l : List ℕ) (more : Bool) (kind task : ℕ) → Facing l more kind task → more ≡ true → (c : Context) (m m' : Semantics.Run) (x : ℕ)
-    → m' ≡ after_all c m (calls_of_kind kind task) → x ≡ line c m kind task → x ∷ lines c m' (drop 2 l) ≡ lines c m l
-unfolding Facing lines
-turn_lines [] more kind task f e c m m' x q s = absurd (false_true (sym f ∙ e))
-turn_lines (a ∷ []) more kind task f e c m m' x q s =
-    let h = f.1 in
-    ap (λ y. y ∷ []) (s ∙ no_line c m kind task (λ e. omega (arith, h, e)) (λ e. omega (arith, h, e)) (λ e. omega (arith, h, e)))
-turn_lines (a ∷ n ∷ bytes) more kind task f e c m m' x q s =
-    let qa = f.1.0 in
-    let qn = f.1.1 in
-    ap (λ y. y ∷ lines c m' bytes) (s ∙ ap (λ j. line c m j task) qa ∙ ap (λ j. line c m a j) qn)
-    ∙ ap (λ w. line c m a n ∷ lines c w bytes) (q ∙ ap (λ j. after_all c m (calls_of_kind j task)) qa ∙ ap (λ j. after_all c m (calls_of_kind a j)) qn)
-
-module _ (p₀ : Piece) (from h : Run) (p : Piece) (inv : Inv p₀ from h p) where
-  pub ends : p.more ≡ false → LentAs p₀ from (record { run = h; piece = p })
-  unfolding calls_in lines
-  ends stop = record { made = λ y. inv.made y h (none_made y); lines = λ y s. sym (none_said y) ∙ inv.lines y s }
-    where
-      none_left : Ready p₀ → rest p ≡ []
-      none_left y = over (rest p) p.more p.kind p.task (inv.ready y).facing stop
-
-      none_made : Ready p₀ → CallsMade (calls_in (rest p)) h h
-      none_made y = subst (λ l. CallsMade (calls_in l) h h) (sym (none_left y)) (no_calls h)
-
-      none_said : Ready p₀ → said p ++ lines (context_of from) (model h) (rest p) ≡ said p
-      none_said y = ap (λ l. said p ++ lines (context_of from) (model h) l) (none_left y) ∙ append-nil (said p)
-
-  module _ (yes : p.more ≡ true) where
-    turned :
-        (x : ℕ) (h' : Run) (p' : Piece) → CallsMade (calls_of_kind p.kind p.task) h h'
-        → (SoundRun h → x ≡ line (context_of h) (model h) p.kind p.task) → NotedAs x p p' → Inv p₀ from h' p'
-    turned x h' p' m e n =
-        record {
-          list = m.list ∙ inv.list;
-          weights = m.weights ∙ inv.weights;
-          sound = λ s. m.sound (inv.sound s);
-          ready = λ y. n.ready;
-          made = λ y r k. inv.made y r (turn_made (rest p) p.more p.kind p.task (inv.ready y).facing yes h h' r m (subst (λ l. CallsMade (calls_in l) h' r) (left y) k));
-          lines = λ y s. all_said y s ∙ inv.lines y s;
-        }
-      where
-        left : Ready p₀ → rest p' ≡ drop 2 (rest p)
-        left y =
-            n.rest ((inv.ready y).room yes)
-            ∙ sym (drop-drop 2 (2 * p.turn) (take p.length p.input) ∙ ap (λ j. drop j (take p.length p.input)) (twice p.turn))
-
-        same : context_of h ≡ context_of from
-        same = same_context h from inv.list inv.weights
-
-        all_said : Ready p₀ → SoundRun from → said p' ++ lines (context_of from) (model h') (rest p') ≡ said p ++ lines (context_of from) (model h) (rest p)
-        all_said y s =
-            let c = context_of from in
-            ap (λ l. said p' ++ lines c (model h') l) (left y)
-            ∙ ap (λ l. l ++ lines c (model h') (drop 2 (rest p))) (n.said ((inv.ready y).room yes))
-            ∙ append_assoc (said p) (x ∷ []) (lines c (model h') (drop 2 (rest p)))
-            ∙ ap (λ l. said p ++ l) (turn_lines (rest p) p.more p.kind p.task (inv.ready y).facing yes c (model h) (model h') x (m.run (inv.sound s) ∙ ap (λ w. after_all w (model h) (calls_of_kind p.kind p.task)) same) (e (inv.sound s) ∙ ap (λ w. line w (model h) p.kind p.task) same))
-
-    pub by_start : p.kind ≡ 0 → (a : Answer) (h' : Run) (p' : Piece) → CalledIn start h p.task a h' → NotedAs (answer_number a) p p' → Inv p₀ from h' p'
-    unfolding line
-    by_start k a h' p' c n =
-        turned (answer_number a) h' p' (kind_start h p.kind p.task k h' (one_call start h p.task (record { answer = a; run = h' }) c)) (λ s. c.answer s ∙ ap (λ j. line (context_of h) (model h) j p.task) (sym k)) n
-
-    pub by_step : p.kind ≡ 1 → (a : Answer) (h' : Run) (p' : Piece) → CalledIn step h p.task a h' → NotedAs (answer_number a) p p' → Inv p₀ from h' p'
-    unfolding line
-    by_step k a h' p' c n =
-        turned (answer_number a) h' p' (kind_step h p.kind p.task k h' (one_call step h p.task (record { answer = a; run = h' }) c)) (λ s. c.answer s ∙ ap (λ j. line (context_of h) (model h) j p.task) (sym k)) n
-
-    pub by_end : p.kind ≡ 2 → (a : Answer) (h' : Run) (p' : Piece) → CalledIn «end» h p.task a h' → NotedAs (answer_number a) p p' → Inv p₀ from h' p'
-    unfolding line
-    by_end k a h' p' c n =
-        turned (answer_number a) h' p' (kind_end h p.kind p.task k h' (one_call «end» h p.task (record { answer = a; run = h' }) c)) (λ s. c.answer s ∙ ap (λ j. line (context_of h) (model h) j p.task) (sym k)) n
-
-    pub by_none : (p.kind ≡ 0 → ⊥) → (p.kind ≡ 1 → ⊥) → (p.kind ≡ 2 → ⊥) → (p' : Piece) → NotedAs 18 p p' → Inv p₀ from h p'
-    by_none q s u p' n =
-        turned 18 h p' (kind_none h p.kind p.task q s u) (λ _. sym (no_line (context_of h) (model h) p.kind p.task q s u)) n
-
--- the lender of a whole piece
-pub whole : (l : List ℕ) (p : Piece) (from : Run) (r : Lent) → PieceOf l p → LentAs p from r → LentOf l from r
-whole l p from r f k =
+pub begins : (whole : List ℕ) (from : Run) (said rest : List ℕ) → said ≡ [] → rest ≡ whole → Inv whole from from said rest
+begins whole from said rest none all =
     record {
-      made = subst (λ xs. CallsMade (calls_in xs) from r.run) f.rest (k.made f.ready);
+      list = refl;
+      weights = refl;
+      sound = λ s. s;
+      made = λ r m. subst (λ l. CallsMade (calls_in l) from r) all m;
+      lines = λ s. ap (λ l. l ++ lines (context_of from) (model from) rest) none ∙ ap (lines (context_of from) (model from)) all;
+    }
+
+-- two elements off the front, or as many as there are
+split_after :
+    (call behind : List ℕ) → length call ≡ min 2 (length (call ++ behind))
+    → (take 2 (call ++ behind) ≡ call) × (drop 2 (call ++ behind) ≡ behind)
+split_after [] [] e = (refl, refl)
+split_after [] (x ∷ l) e = absurd (omega arith)
+split_after (k ∷ []) [] e = (refl, refl)
+split_after (k ∷ []) (x ∷ l) e = absurd (omega arith)
+split_after (k ∷ n ∷ []) behind e = (refl, refl)
+split_after (k ∷ n ∷ m ∷ l) behind e = absurd (omega arith)
+
+-- the call of the bytes `call`, with `behind` left, whose number x is written behind the first `turn`
+pub turned :
+    (whole : List ℕ) (from h h' : Run) (answers : List ℕ) (turn next : ℕ) (rest call behind : List ℕ) (x : ℕ)
+    → Inv whole from h (take turn answers) rest → turn < length answers → next ≡ turn + 1
+    → rest ≡ call ++ behind → length call ≡ min 2 (length rest)
+    → CallsMade (calls_in call) h h' → (SoundRun h → x ∷ [] ≡ lines (context_of h) (model h) call)
+    → Inv whole from h' (take next (set answers turn x)) behind
+turned whole from h h' answers turn next rest call behind x inv room n apart short m e =
+    record {
+      list = m.list ∙ inv.list;
+      weights = m.weights ∙ inv.weights;
+      sound = λ s. m.sound (inv.sound s);
+      made = λ r k. inv.made r (subst (λ cs. CallsMade cs h r) (sym all_calls) (calls_append (calls_in call) (calls_in behind) h h' r m k));
+      lines = all_said;
+    }
+  where
+    same : context_of h ≡ context_of from
+    same = same_context h from inv.list inv.weights
+
+    parts : (take 2 (call ++ behind) ≡ call) × (drop 2 (call ++ behind) ≡ behind)
+    parts = split_after call behind (short ∙ ap (λ l. min 2 (length l)) apart)
+
+    front : take 2 rest ≡ call
+    front = ap (take 2) apart ∙ parts.0
+
+    back : drop 2 rest ≡ behind
+    back = ap (drop 2) apart ∙ parts.1
+
+    all_calls : calls_in rest ≡ calls_in call ++ calls_in behind
+    all_calls = calls_apart rest ∙ ap (λ l. calls_in l ++ calls_in (drop 2 rest)) front ∙ ap (λ l. calls_in call ++ calls_in l) back
+
+    all_lines : (c : Context) (r : Semantics.Run) → lines c r rest ≡ lines c r call ++ lines c (after_all c r (calls_in call)) behind
+    all_lines c r =
+        lines_apart c r rest ∙ ap (λ l. lines c r l ++ lines c (after_all c r (calls_in l)) (drop 2 rest)) front
+        ∙ ap (λ l. lines c r call ++ lines c (after_all c r (calls_in call)) l) back
+
+    all_said : SoundRun from → take next (set answers turn x) ++ lines (context_of from) (model h') behind ≡ lines (context_of from) (model from) whole
+    all_said s =
+        let c = context_of from in
+        let said = take turn answers in
+        let noted : take next (set answers turn x) ≡ said ++ x ∷ [] = ap (λ k. take k (set answers turn x)) n ∙ take_more_set answers turn x room in
+        let first : x ∷ [] ≡ lines c (model h) call = e (inv.sound s) ∙ ap (λ w. lines w (model h) call) same in
+        let after : model h' ≡ after_all c (model h) (calls_in call) = m.run (inv.sound s) ∙ ap (λ w. after_all w (model h) (calls_in call)) same in
+        ap (λ l. l ++ lines c (model h') behind) noted
+        ∙ append_assoc said (x ∷ []) (lines c (model h') behind)
+        ∙ ap (λ l. said ++ (l ++ lines c (model h') behind)) first
+        ∙ ap (λ r. said ++ (lines c (model h) call ++ lines c r behind)) after
+        ∙ ap (λ l. said ++ l) (sym (all_lines c (model h)))
+        ∙ inv.lines s
+
+none_of : (l : List ℕ) → length l ≡ 0 → l ≡ []
+none_of [] e = refl
+none_of (x ∷ l) e = absurd (omega arith)
+
+-- The turns of the lender, two bytes each but perhaps the last: the run `h` and the answers after `turn` calls of the first 512
+-- bytes of an input, where `rest` is left.
+pub record Turns (input : List ℕ) (from h : Run) (answers rest : List ℕ) (turn size : ℕ) : Type 0 where
+  pub said : Inv (take 512 input) from h (take turn answers) rest
+  pub room : length answers ≡ 256
+  pub pairs : size ≡ 2
+  pub next : 0 < length rest → turn < 256
+  pub at_least : length (take 512 input) ≤ 2 * turn + length rest
+  pub at_most : 2 * turn + length rest ≤ length (take 512 input) + 1
+  pub whole : 0 < length rest → 2 * turn + length rest ≤ length (take 512 input)
+
+first_bytes : (n : ℕ) (l : List ℕ) → n ≡ min (length l) 512 → take n l ≡ take 512 l
+first_bytes n l q = ap (λ k. take k l) (q ∙ min_comm (length l) 512) ∙ take_min 512 l
+
+pub first_turn :
+    (input : List ℕ) (from : Run) (answers rest : List ℕ) (n turn size : ℕ) → n ≡ min (length input) 512 → length answers ≡ 256
+    → turn ≡ 0 → size ≡ 2 → rest ≡ take n input → Turns input from from answers rest turn size
+first_turn input from answers rest n turn size q room none two all =
+    let is = all ∙ first_bytes n input q in
+    let many = ap length is in
+    let most = length-take 512 input in
+    record {
+      said = begins (take 512 input) from (take turn answers) rest (ap (λ k. take k answers) none) is;
+      room = room;
+      pairs = two;
+      next = λ h. omega arith;
+      at_least = omega arith;
+      at_most = omega arith;
+      whole = λ h. omega arith;
+    }
+
+pub next_turn :
+    (input : List ℕ) (from h h' : Run) (answers rest call behind : List ℕ) (turn size turn' size' at x : ℕ)
+    → Turns input from h answers rest turn size
+    → (size' ≡ size) × ((rest ≡ call ++ behind) × (length call ≡ min size (length rest)) × (0 < length rest))
+    → at ≡ turn → turn' ≡ turn + 1
+    → CallsMade (calls_in call) h h' → (SoundRun h → x ∷ [] ≡ lines (context_of h) (model h) call)
+    → Turns input from h' (set answers at x) behind turn' size'
+next_turn input from h h' answers rest call behind turn size turn' size' at x t cut q n m e =
+    let apart = cut.1.0 in
+    let short : length call ≡ min 2 (length rest) = cut.1.1 ∙ ap (λ k. min k (length rest)) t.pairs in
+    let many = ap length apart ∙ length-append call behind in
+    let before : turn < 256 = t.next cut.1.2 in
+    let bytes : 2 * turn + length rest ≤ length (take 512 input) = t.whole cut.1.2 in
+    let most = length-take 512 input in
+    record {
+      said =
+          subst (λ k. Inv (take 512 input) from h' (take turn' (set answers k x)) behind) (sym q)
+          (turned (take 512 input) from h h' answers turn turn' rest call behind x t.said (omega arith) n apart short m e);
+      room = length-set answers at x ∙ t.room;
+      pairs = cut.0 ∙ t.pairs;
+      next = λ h. omega arith;
+      at_least = omega arith;
+      at_most = omega arith;
+      whole = λ h. omega arith;
+    }
+
+-- all the bytes of a piece are taken
+pub last_turn :
+    (input : List ℕ) (from h : Run) (answers rest : List ℕ) (n turn size calls : ℕ) → n ≡ min (length input) 512
+    → Turns input from h answers rest turn size → length rest ≡ 0 → calls ≡ div_ceil (length (take n input)) 2
+    → LentOf input from (record { run = h; calls = calls; answers = answers })
+unfolding calls_in lines
+last_turn input from h answers rest n turn size calls q t none all =
+    let over = none_of rest none in
+    let piece = ap length (first_bytes n input q) in
+    let least = t.at_least in
+    let most = t.at_most in
+    let count : calls ≡ turn = omega arith in
+    record {
+      made = t.said.made h (subst (λ l. CallsMade (calls_in l) h h) (sym over) (no_calls h));
       lines =
           λ s.
-          k.lines f.ready s
-          ∙ ap (λ xs. xs ++ lines (context_of from) (model from) (rest p)) f.said
-          ∙ ap (lines (context_of from) (model from)) f.rest;
+          ap (λ k. take k answers) count ∙ sym (append-nil (take turn answers))
+          ∙ ap (λ l. take turn answers ++ lines (context_of from) (model h) l) (sym over)
+          ∙ t.said.lines s;
     }

@@ -1,3 +1,2 @@
 pub mod LendLaws
 pub mod LineCases
-pub mod PieceLaws

@@ -1,91 +1,108 @@
-// A run that is lent: start, step and end on a run behind a `&mut`, over the by-value methods of the crate `runtime`; and
-// the lender, which holds one run and lends it to each call of a piece of input.
+// A run that is lent: start, step and end on a run behind a `&mut`; and the lender, which holds one run and lends it to each
+// call of a piece of input.
 #![tactic(auto)]
 
+ghost use Rattle.std.specs.Prelude.{◌≤◌, ◌<◌, ◌≡◌, ◌∷◌, [], length};
 ghost use Rattle.semantics.specs.Plan.{start, step, «end»};
+ghost use Rattle.semantics.specs.Answers.{answer_number};
+ghost use Rattle.runtime.specs.View.{model, context_of, SoundRun};
+ghost use Rattle.runtime.specs.Calls.{CallsMade};
 ghost use Rattle.lent.specs.Handed.{CalledIn};
-ghost use Rattle.lent.specs.Pieces.{LentAs, LentOf};
+ghost use Rattle.lent.specs.Lines.{calls_in, lines};
+ghost use Rattle.lent.specs.Pieces.{LentOf};
 
-use runtime::Run;
-use semantics::Answer;
+use runtime::{Called, Run};
+use semantics::CallRefusal;
 
 // The bytes of an input that the lender takes at once.
 pub const PIECE: usize = 512;
 
-// A piece of the coordinator's input, the call at hand, and the numbers answered so far.
-#[derive(Clone, Copy)]
-pub struct Piece {
-    // Whether there is one more call (document 01: two bytes, or half a call), its kind and its task.
-    pub more: bool,
-    pub kind: u8,
-    pub task: u32,
-    // Calls answered, and their numbers.
-    pub turn: usize,
-    pub answers: [u8; 256],
-    // The bytes of the piece.
-    pub length: usize,
-    pub input: [u8; PIECE],
-}
+// Its calls at most, of two bytes each; the last one may be half a call.
+const CALLS: usize = PIECE / 2;
 
-// What the lender hands back: the run after the calls, and the piece with every number.
+// What the lender hands back: the run after the calls, how many calls it answered, and their numbers.
 #[derive(Clone, Copy)]
 pub struct Lent {
     pub run: Run,
-    pub piece: Piece,
+    pub calls: usize,
+    pub answers: [u8; CALLS],
 }
 
-mod pieces;
-
-use pieces::{noted, piece_of, strayed};
+// Makes a call on the run that is lent, and leaves there the run that it hands back.
+// Kept: "calling the by-value methods and storing the result", as the project's rule has it.
+fn called_in<F: FnOnce(Run) -> Called>(run: &mut Run, call: F) -> Result<(), CallRefusal>
+    requires { F.pre call run.old }
+    ensures { F.post call run.old (record { answer = result; run = run.new }) }
+{
+    let called = call(*run);
+    *run = called.run;
+    called.answer
+}
 
 // Starts a task of the run that is lent.
-pub fn start_in(run: &mut Run, task: u32) -> Answer
+pub fn start_in(run: &mut Run, task: u32) -> Result<(), CallRefusal>
     ensures { CalledIn start run.old task result run.new }
 {
-    let c = (*run).start(task);
-    *run = c.run;
-    c.answer
+    called_in(run, |run| run.start(task))
 }
 
 // Does one step of a task of the run that is lent.
-pub fn step_in(run: &mut Run, task: u32) -> Answer
+pub fn step_in(run: &mut Run, task: u32) -> Result<(), CallRefusal>
     ensures { CalledIn step run.old task result run.new }
 {
-    let c = (*run).step(task);
-    *run = c.run;
-    c.answer
+    called_in(run, |run| run.step(task))
 }
 
 // Ends a task of the run that is lent.
-pub fn end_in(run: &mut Run, task: u32) -> Answer
+pub fn end_in(run: &mut Run, task: u32) -> Result<(), CallRefusal>
     ensures { CalledIn «end» run.old task result run.new }
 {
-    let c = (*run).end(task);
-    *run = c.run;
-    c.answer
+    called_in(run, |run| run.end(task))
 }
 
-// Holds the run and lends it to each call that the piece has left: 0 start, 1 step, 2 end; another kind is no call.
-fn lend_each(run: Run, piece: Piece) -> Lent
-    ensures { LentAs piece run result }
+// "0 or the refusal"
+fn number_of(answer: Result<(), CallRefusal>) -> u8
+    ensures { result ≡ answer_number answer }
 {
-    let mut r = run;
-    let mut p = piece;
-    while p.more {
-        match p.kind {
-            0 => p = noted(p, start_in(&mut r, p.task)),
-            1 => p = noted(p, step_in(&mut r, p.task)),
-            2 => p = noted(p, end_in(&mut r, p.task)),
-            _ => p = strayed(p),
-        }
+    match answer {
+        Ok(()) => 0,
+        Err(refusal) => u8::from(refusal),
     }
-    Lent { run: r, piece: p }
+}
+
+// Makes the call of these two bytes, and gives its number: 0 start, 1 step, 2 end, then the task; 18 for another kind, or for
+// half a call.
+fn line_of(run: &mut Run, call: &[u8]) -> u8
+    requires some { 0 < length call.now }
+    requires one { length call.now ≤ 2 }
+    ensures made { CallsMade (calls_in call.now) run.old run.new }
+    ensures line { SoundRun run.old → result ∷ [] ≡ lines (context_of run.old) (model run.old) call.now }
+{
+    let [kind, task] = *call else {
+        return 18;
+    };
+    let task = u32::from(task);
+    match kind {
+        0 => number_of(start_in(run, task)),
+        1 => number_of(step_in(run, task)),
+        2 => number_of(end_in(run, task)),
+        _ => 18,
+    }
 }
 
 // Makes the calls of the first PIECE bytes of an input on a run.
 pub fn lend(run: Run, input: &[u8]) -> Lent
     ensures { LentOf input.now run result }
 {
-    let piece = piece_of(input);
-    lend_each(run, piece)
+    let piece = &input[..input.len().min(PIECE)];
+    let mut run = run;
+    let mut answers = [0; CALLS];
+    for (turn, call) in piece.chunks(2).enumerate() {
+        answers[turn] = line_of(&mut run, call);
+    }
+    Lent {
+        run,
+        calls: piece.len().div_ceil(2),
+        answers,
+    }
 }

@@ -1,15 +1,15 @@
 -- Laws of a library's numbers. Assumes nothing.
-use Prim.Native.Nat.{ℕ, zero, suc, ◌+◌, ◌*◌, ◌/◌, ◌%◌, ◌^◌, ◌≤◌, ◌<◌, zero-le, min}
-use mathlib.Core.Path.{◌≡◌, refl, sym, ap, ◌∙◌}
-use mathlib.Core.List.{List, [], ◌∷◌, ◌++◌, append_assoc}
-use mathlib.Core.Bool.{Bool, true, false, cond}
-use lib.Dec.{leb, eqb}
-use native.Mathlib.Omega.{arith}
-use native.Mathlib.Numerals.{add-one}
-use native.Mathlib.Nat.{add-zero, zero-add, add-suc, suc-add, div-div-eq-div-mul, mod-eq_of_lt}
-use lib.ListN.{length, take, drop, get_or, set, length-append, length-take}
-use lib.Seq.{sets, sets-eq, take-suc, take-suc-set, length-take-le, take_all}
+use Rattle.std.proofs.Common.{ℕ, zero, suc, ◌+◌, ◌*◌, ◌/◌, ◌%◌, ◌^◌, ◌≤◌, ◌<◌, ◌≡◌, refl, sym, ap, ◌∙◌, List, [], ◌∷◌, ◌++◌, append_assoc, Bool, true, false, cond, arith, map, length, take, drop, get_or, leb, eqb}
+use Rattle.std.specs.Prelude.{Ok, Err}
+use Rattle.std.specs.Int.{w32, from_le_bytes, to_le_bytes}
+use Rattle.std.specs.Simd.{first_chunks}
+use borrow.Rule.Slice.PartMut.{put_mid}
+use native.Mathlib.Nat.{div-div-eq-div-mul, mod-eq_of_lt}
+use Rattle.std.proofs.lemmas.List.{take_at, drop_at, drop-drop, take_more}
+use lib.ListN.{length-append}
+use lib.Seq.{take_all, length-take-le}
 use borrow.Author.Tests.{eq-eqb, ne_eqb, le-leb, lt-leb, leb-true, leb-false}
+use Rattle.library.specs.declared.Numbers.{Numbers}
 use Rattle.library.specs.Library.{number_of, numbers_of, number_bytes, bytes_of, memory_of, fitting, Read, at_front, Put}
 
 -- lengths
@@ -44,6 +44,12 @@ module _ (bytes : List ℕ) where
   pub memory_odd : (length bytes % 4 ≡ 0 → ⊥) → memory_of bytes ≡ []
   unfolding memory_of
   memory_odd h = rw (ne_eqb (length bytes % 4) 0 h) refl
+
+  pub fitting_odd : (length bytes % 4 ≡ 0 → ⊥) → fitting bytes ≡ []
+  unfolding fitting
+  fitting_odd h =
+      ap (λ m. cond (leb (length bytes) 256) m []) (memory_odd h)
+      ∙ elim (leb (length bytes) 256) as (λ b. cond {A = List ℕ} b [] [] ≡ []) [ true ↦ refl | false ↦ refl ]
 
   pub memory_whole : length bytes % 4 ≡ 0 → memory_of bytes ≡ numbers_of bytes
   unfolding memory_of
@@ -98,28 +104,6 @@ fits_alike {A} bytes locations give deny some few = by_fit (fitting_is bytes)
         ne_eqb (length (memory_of bytes)) locations (λ z. other locations some few z) in
         ap asked e ∙ ap (λ t. cond t (give []) deny) none_read ∙ sym (ap (λ t. cond t (give (memory_of bytes)) deny) unfit)
 
--- the number at a place of the library
-pub numbers_at :
-    (bytes : List ℕ) (i : ℕ) → i < length bytes / 4
-    → get_or (numbers_of bytes) i 0
-    ≡ number_of (get_or bytes (4 * i) 0) (get_or bytes (4 * i + 1) 0) (get_or bytes (4 * i + 2) 0) (get_or bytes (4 * i + 3) 0)
-unfolding numbers_of
-numbers_at [] i h = let z : ⊥ = omega arith in absurd z
-numbers_at (a ∷ []) i h = let z : ⊥ = omega arith in absurd z
-numbers_at (a ∷ b ∷ []) i h = let z : ⊥ = omega arith in absurd z
-numbers_at (a ∷ b ∷ c ∷ []) i h = let z : ⊥ = omega arith in absurd z
-numbers_at (a ∷ b ∷ c ∷ d ∷ rest) zero h = refl
-numbers_at (a ∷ b ∷ c ∷ d ∷ rest) (suc i) h =
-    let behind : (k m : ℕ) → k ≡ suc (suc (suc (suc m))) → get_or (a ∷ b ∷ c ∷ d ∷ rest) k 0 ≡ get_or rest m 0 =
-    λ k m e. ap (λ x. get_or (a ∷ b ∷ c ∷ d ∷ rest) x 0) e in
-    cc (
-      numbers_at rest i (omega arith),
-      behind (4 * suc i) (4 * i) (omega arith),
-      behind (4 * suc i + 1) (4 * i + 1) (omega arith),
-      behind (4 * suc i + 2) (4 * i + 2) (omega arith),
-      behind (4 * suc i + 3) (4 * i + 3) (omega arith),
-    )
-
 -- the numbers of bytes have 32 bits
 pub numbers_small :
     (bytes : List ℕ) → ((i : ℕ) → get_or bytes i 0 < 256) → (i : ℕ) → get_or (numbers_of bytes) i 0 < 2 ^ 32
@@ -158,38 +142,35 @@ numbers_back [] h = refl
 numbers_back (n ∷ ns) h =
     ap (λ x. x ∷ numbers_of (bytes_of ns)) (number_back n (h 0)) ∙ ap (λ l. n ∷ l) (numbers_back ns (λ i. h (suc i)))
 
+-- The numbers are those of the chunks of four bytes.
+pub numbers_are : (bytes : List ℕ) → numbers_of bytes ≡ map (from_le_bytes w32) (first_chunks 4 (length bytes / 4) bytes)
+unfolding numbers_of number_of
+numbers_are [] = refl
+numbers_are (a ∷ []) = refl
+numbers_are (a ∷ b ∷ []) = refl
+numbers_are (a ∷ b ∷ c ∷ []) = refl
+numbers_are (a ∷ b ∷ c ∷ d ∷ rest) =
+    let one_more : length (a ∷ b ∷ c ∷ d ∷ rest) / 4 ≡ suc (length rest / 4) = omega arith in
+    let number : a + 256 * b + 65536 * c + 16777216 * d ≡ from_le_bytes w32 (a ∷ b ∷ c ∷ d ∷ []) = omega arith in
+    rw one_more (cc (numbers_are rest, number))
+
 -- what read_numbers hands back
-module _ (bytes values : List ℕ) (whole : length values ≡ 64) where
-  pub read_none : fitting bytes ≡ [] → Read bytes (record { values = values; count = 0 })
-  read_none e = record { whole = whole; count = zero-le; values = sym e }
+module _ (bytes : List ℕ) (r : Numbers) (whole : length r.values ≡ 64) where
+  pub read_none : r.count ≡ 0 → fitting bytes ≡ [] → Read bytes r
+  read_none none e = record { whole = whole; count = omega arith; values = ap (λ k. take k r.values) none ∙ sym e }
 
   pub read_all :
-      (count : ℕ) → length bytes ≤ 256 → length bytes % 4 ≡ 0 → count ≡ length bytes / 4
-      → take count values ≡ take count (numbers_of bytes) → Read bytes (record { values = values; count = count })
-  read_all count few even h e =
+      (fours : List (List ℕ)) → fours ≡ first_chunks 4 (length bytes / 4) bytes → length fours ≡ length bytes / 4 → length bytes % 4 ≡ 0
+      → length fours ≤ 64 → r.count ≡ length fours → take r.count r.values ≡ map (from_le_bytes w32) (take r.count fours) → Read bytes r
+  read_all fours chunks count even few all e =
       record {
         whole = whole;
         count = omega arith;
         values =
-            e ∙ take_all count (numbers_of bytes) (omega (arith, numbers_length bytes))
-            ∙ sym (fitting_short bytes few ∙ memory_whole bytes even);
+            e ∙ ap (λ k. map (from_le_bytes w32) (take k fours)) all ∙ ap (map (from_le_bytes w32)) (take_all (length fours) fours (omega arith))
+            ∙ ap (map (from_le_bytes w32)) chunks ∙ sym (numbers_are bytes)
+            ∙ sym (fitting_short bytes (omega arith) ∙ memory_whole bytes even);
       }
-
--- one number more is read
-pub read_more :
-    (bytes values : List ℕ) (i x : ℕ) → i < length bytes / 4 → i < length values
-    → x ≡ number_of (get_or bytes (4 * i) 0) (get_or bytes (4 * i + 1) 0) (get_or bytes (4 * i + 2) 0) (get_or bytes (4 * i + 3) 0)
-    → take i values ≡ take i (numbers_of bytes) → take (i + 1) (set values i x) ≡ take (i + 1) (numbers_of bytes)
-read_more bytes values i x h b e held =
-    let n : i < length (numbers_of bytes) = omega (arith, numbers_length bytes) in
-    rw (add-one i, take-suc-set values i x b, take-suc (numbers_of bytes) i 0 n)
-    (ap (λ l. l ++ (x ∷ [])) held ∙ ap (λ y. take i (numbers_of bytes) ++ (y ∷ [])) (e ∙ sym (numbers_at bytes i h)))
-
-sets_append : (xs l ys : List ℕ) (i : ℕ) → sets l i (xs ++ ys) ≡ sets (sets l i xs) (i + length xs) ys
-sets_append [] l ys i = ap (λ (k : ℕ). sets l k ys) (sym (add-zero i))
-sets_append (a ∷ xs) l ys i =
-    sets_append xs (set l i a) ys (suc i) ∙
-    ap (λ (k : ℕ). sets (sets (set l i a) (suc i) xs) k ys) (suc-add i (length xs) ∙ sym (add-suc i (length xs)))
 
 bytes_append : (xs ys : List ℕ) → bytes_of (xs ++ ys) ≡ bytes_of xs ++ bytes_of ys
 unfolding bytes_of
@@ -197,57 +178,37 @@ bytes_append [] ys = refl
 bytes_append (x ∷ xs) ys =
     ap (λ l. number_bytes x ++ l) (bytes_append xs ys) ∙ sym (append_assoc (number_bytes x) (bytes_of xs) (bytes_of ys))
 
-bytes_one : (x : ℕ) → bytes_of (x ∷ []) ≡ number_bytes x
-unfolding bytes_of number_bytes
-bytes_one x = refl
-
 -- one number more is put
 pub put_more :
-    (ns out : List ℕ) (i : ℕ) → i < length ns
-    → sets (sets out 0 (bytes_of (take i ns))) (4 * i) (number_bytes (get_or ns i 0)) ≡ sets out 0 (bytes_of (take (i + 1) ns))
-put_more ns out i h =
-    let x = get_or ns i 0 in
-    let at : 0 + length (bytes_of (take i ns)) ≡ 4 * i = omega (arith, bytes_length (take i ns), length-take-le i ns (omega arith)) in
-    let grown : bytes_of (take (i + 1) ns) ≡ bytes_of (take i ns) ++ number_bytes x =
-    ap (λ k. bytes_of (take k ns)) (add-one i) ∙ ap bytes_of (take-suc ns i 0 h)
-    ∙ bytes_append (take i ns) (x ∷ []) ∙ ap (λ l. bytes_of (take i ns) ++ l) (bytes_one x) in
-    ap (λ k. sets (sets out 0 (bytes_of (take i ns))) k (number_bytes x)) (sym at)
-    ∙ sym (sets_append (bytes_of (take i ns)) out (number_bytes x) 0)
-    ∙ ap (sets out 0) (sym grown)
+    (ns out before part : List ℕ) (i k : ℕ) → i < length ns → k ≡ 4 → before ≡ bytes_of (take i ns) ++ drop (4 * i) out
+    → part ≡ to_le_bytes w32 (get_or ns i 0) → put_mid (4 * i) k before part ≡ bytes_of (take (i + 1) ns) ++ drop (4 * (i + 1)) out
+unfolding bytes_of number_bytes
+put_more ns out before part i k h size was given =
+    let front : List ℕ = bytes_of (take i ns) in
+    let behind : List ℕ = drop (4 * i) out in
+    let number : List ℕ = to_le_bytes w32 (get_or ns i 0) in
+    let long : length front ≡ 4 * i = omega (arith, bytes_length (take i ns), length-take-le i ns (omega arith)) in
+    let grown : bytes_of (take (i + 1) ns) ≡ front ++ number =
+    ap bytes_of (take_more ns i 0 h) ∙ bytes_append (take i ns) (get_or ns i 0 ∷ []) in
+    let rest : drop 4 (drop (4 * i) (front ++ behind)) ≡ drop (4 * (i + 1)) out =
+    ap (drop 4) (drop_at front behind (4 * i) long) ∙ drop-drop 4 (4 * i) out ∙ ap (λ j. drop j out) (omega arith) in
+    rw (was, given, size)
+    (
+    ap (λ l. l ++ (number ++ drop 4 (drop (4 * i) (front ++ behind)))) (take_at front behind (4 * i) long)
+    ∙ ap (λ l. front ++ (number ++ l)) rest ∙ sym (append_assoc front number (drop (4 * (i + 1)) out))
+    ∙ ap (λ l. l ++ drop (4 * (i + 1)) out) (sym grown)
+    )
 
--- what write_numbers comes to, where n of 64 numbers are asked for
-module _ (ns : List ℕ) (whole : length ns ≡ 64) (count n : ℕ) (e : n ≡ min count 64) where
-  pub asked_for : take n ns ≡ take count ns
-  asked_for = by_size (leb count 64) refl
-    where
-      by_size : (t : Bool) → leb count 64 ≡ t → take n ns ≡ take count ns
-      by_size true h =
-          let all : n ≡ count = omega (arith, leb-true count 64 h) in
-          ap (λ k. take k ns) all
-      by_size false h =
-          take_all n ns (omega (arith, leb-false count 64 h)) ∙ sym (take_all count ns (omega (arith, leb-false count 64 h)))
-
-  pub asked_length : length (bytes_of (take count ns)) ≡ 4 * n
-  asked_length = bytes_length (take count ns) ∙ omega (arith, length-take count ns)
-
-  pub put_short : (out : List ℕ) → length out < 4 * n → Put (bytes_of (take count ns)) out out false
+-- what write_numbers comes to
+module _ (ns out : List ℕ) where
+  pub put_short : length out / 4 < length ns → Put (bytes_of ns) out out (Err (record {}))
   unfolding at_front
-  put_short out h =
-      let bytes = bytes_of (take count ns) in
-      let short : leb (length bytes) (length out) ≡ false = lt-leb (length bytes) (length out) (omega (arith, asked_length)) in
+  put_short h =
+      let short : leb (length (bytes_of ns)) (length out) ≡ false = lt-leb (length (bytes_of ns)) (length out) (omega (arith, bytes_length ns)) in
       record { fits = sym short; places = rw short refl }
 
-  pub put_all :
-      (out after : List ℕ) → 4 * n ≤ length out → after ≡ sets out 0 (bytes_of (take n ns))
-      → Put (bytes_of (take count ns)) out after true
+  pub put_all : (after : List ℕ) → length ns ≤ length out / 4 → after ≡ bytes_of ns ++ drop (4 * length ns) out → Put (bytes_of ns) out after (Ok tt)
   unfolding at_front
-  put_all out after h q =
-      let bytes = bytes_of (take count ns) in
-      let room : length bytes ≤ length out = omega (arith, asked_length) in
-      record {
-        fits = sym (le-leb (length bytes) (length out) room);
-        places =
-            q ∙ ap (λ l. sets out 0 (bytes_of l)) asked_for
-            ∙ sets-eq bytes out 0 (rw zero-add room) ∙ ap (λ (k : ℕ). bytes ++ drop k out) (zero-add (length bytes))
-            ∙ rw (le-leb (length bytes) (length out) room) refl;
-      }
+  put_all after h q =
+      let room : leb (length (bytes_of ns)) (length out) ≡ true = le-leb (length (bytes_of ns)) (length out) (omega (arith, bytes_length ns)) in
+      record { fits = sym room; places = rw room (q ∙ ap (λ k. bytes_of ns ++ drop k out) (sym (bytes_length ns))) }

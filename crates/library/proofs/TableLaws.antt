@@ -1,11 +1,9 @@
 -- Laws of a table's numbers. Assumes nothing.
-use Prim.Native.Nat.{ℕ, zero, suc, ◌+◌, ◌*◌, ◌/◌, ◌<◌, zero-le}
-use mathlib.Core.Path.{◌≡◌, refl, sym, ap, ◌∙◌}
-use mathlib.Core.List.{List, [], ◌∷◌, ◌++◌}
-use native.Mathlib.Omega.{arith}
-use native.Mathlib.Numerals.{add-one}
-use lib.ListN.{length, take, get_or, set}
-use lib.Seq.{take-suc, take-suc-set, take_all}
+use Rattle.std.proofs.Common.{ℕ, suc, ◌+◌, ◌*◌, ◌/◌, ◌%◌, ◌≡◌, refl, sym, ap, ◌∙◌, List, [], ◌∷◌, arith, map, length, take}
+use Rattle.std.specs.Prelude.{Some, None}
+use Rattle.std.specs.Int.{w16, from_le_bytes}
+use Rattle.std.specs.Simd.{first_chunks}
+use lib.Seq.{take_all}
 use borrow.Author.Tests.{eq-eqb, ne_eqb}
 use Rattle.library.specs.Table.{pair_of, pairs_of, table_of, ReadTable}
 
@@ -15,16 +13,15 @@ pairs_length [] = refl
 pairs_length (a ∷ []) = refl
 pairs_length (a ∷ b ∷ rest) = omega (arith, pairs_length rest)
 
--- the number at a place of the table
-pairs_at : (bytes : List ℕ) (i : ℕ) → i < length bytes / 2 → get_or (pairs_of bytes) i 0 ≡ pair_of (get_or bytes (2 * i) 0) (get_or bytes (2 * i + 1) 0)
-unfolding pairs_of
-pairs_at [] i h = let z : ⊥ = omega arith in absurd z
-pairs_at (a ∷ []) i h = let z : ⊥ = omega arith in absurd z
-pairs_at (a ∷ b ∷ rest) zero h = refl
-pairs_at (a ∷ b ∷ rest) (suc i) h =
-    let behind : (k m : ℕ) → k ≡ suc (suc m) → get_or (a ∷ b ∷ rest) k 0 ≡ get_or rest m 0 =
-    λ k m e. ap (λ x. get_or (a ∷ b ∷ rest) x 0) e in
-    cc (pairs_at rest i (omega arith), behind (2 * suc i) (2 * i) (omega arith), behind (2 * suc i + 1) (2 * i + 1) (omega arith))
+-- The numbers are those of the chunks of two bytes.
+pub pairs_are : (bytes : List ℕ) → pairs_of bytes ≡ map (from_le_bytes w16) (first_chunks 2 (length bytes / 2) bytes)
+unfolding pairs_of pair_of
+pairs_are [] = refl
+pairs_are (a ∷ []) = refl
+pairs_are (a ∷ b ∷ rest) =
+    let one_more : length (a ∷ b ∷ rest) / 2 ≡ suc (length rest / 2) = omega arith in
+    let number : a + 256 * b ≡ from_le_bytes w16 (a ∷ b ∷ []) = omega arith in
+    rw one_more (cc (pairs_are rest, number))
 
 -- "wrong length": 30 bytes are a table of 15 numbers, and other bytes are none
 module _ (bytes : List ℕ) where
@@ -40,25 +37,17 @@ module _ (bytes : List ℕ) where
   table_length h = omega (arith, pairs_length bytes)
 
 -- what read_table hands back
-module _ (bytes values : List ℕ) (whole : length values ≡ 15) where
-  pub read_none : (length bytes ≡ 30 → ⊥) → ReadTable bytes (record { values = values; count = 0 })
-  read_none h = record { whole = whole; count = zero-le; values = sym (table_none bytes h) }
+module _ (bytes : List ℕ) where
+  pub read_none : (length bytes ≡ 30 → ⊥) → ReadTable bytes None
+  read_none h = record { whole = tt; values = sym (table_none bytes h) }
 
   pub read_all :
-      length bytes ≡ 30 → take 15 values ≡ take 15 (pairs_of bytes) → ReadTable bytes (record { values = values; count = 15 })
-  read_all h e =
+      (values : List ℕ) (pairs : List (List ℕ)) → length values ≡ 15 → pairs ≡ first_chunks 2 (length bytes / 2) bytes → length pairs ≡ length bytes / 2
+      → length bytes % 2 ≡ 0 → length pairs ≡ 15 → take 15 values ≡ map (from_le_bytes w16) (take 15 pairs) → ReadTable bytes (Some values)
+  read_all values pairs whole chunks count even all e =
       record {
         whole = whole;
-        count = omega arith;
-        values = e ∙ take_all 15 (pairs_of bytes) (omega (arith, table_length bytes h)) ∙ sym (table_whole bytes h);
+        values =
+            sym (take_all 15 values (omega arith)) ∙ e ∙ ap (map (from_le_bytes w16)) (take_all 15 pairs (omega arith))
+            ∙ ap (map (from_le_bytes w16)) chunks ∙ sym (pairs_are bytes) ∙ sym (table_whole bytes (omega arith));
       }
-
--- one number more is read
-pub read_more :
-    (bytes values : List ℕ) (i x : ℕ) → i < length bytes / 2 → i < length values
-    → x ≡ pair_of (get_or bytes (2 * i) 0) (get_or bytes (2 * i + 1) 0)
-    → take i values ≡ take i (pairs_of bytes) → take (i + 1) (set values i x) ≡ take (i + 1) (pairs_of bytes)
-read_more bytes values i x h b e held =
-    let n : i < length (pairs_of bytes) = omega (arith, pairs_length bytes) in
-    rw (add-one i, take-suc-set values i x b, take-suc (pairs_of bytes) i 0 n)
-    (ap (λ l. l ++ (x ∷ [])) held ∙ ap (λ y. take i (pairs_of bytes) ++ (y ∷ [])) (e ∙ sym (pairs_at bytes i h)))

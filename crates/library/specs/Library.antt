@@ -1,5 +1,6 @@
 -- The numbers of a library: document 01, "library.bin (4 bytes per entry, least first; a length other than 4 × C gives 8)".
-use Rattle.std.specs.Prelude.{ℕ, ◌+◌, ◌*◌, ◌/◌, ◌%◌, ◌≤◌, ◌≡◌, List, [], ◌∷◌, ◌++◌, Bool, cond, length, take, drop, leb, eqb}
+use Rattle.std.specs.Prelude.{ℕ, ◌+◌, ◌*◌, ◌/◌, ◌%◌, ◌≤◌, ◌≡◌, List, [], ◌∷◌, ◌++◌, Result, is_ok, cond, length, take, drop, leb, eqb}
+use Rattle.tasklist.specs.declared.Short.{Short}
 use Rattle.library.specs.declared.Numbers.{Numbers}
 
 -- "4 bytes per entry, least first"
@@ -43,6 +44,6 @@ unfoldable pub at_front : List ℕ → List ℕ → List ℕ
 at_front bytes out = cond (leb (length bytes) (length out)) (bytes ++ drop (length bytes) out) out
 
 -- the lent places before and after, and whether the bytes fit
-pub record Put (bytes before after : List ℕ) (r : Bool) : Type 0 where
-  pub fits : r ≡ leb (length bytes) (length before)
+pub record Put (bytes before after : List ℕ) (r : Result Unit Short) : Type 0 where
+  pub fits : is_ok r ≡ leb (length bytes) (length before)
   pub places : after ≡ at_front bytes before

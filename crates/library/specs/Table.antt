@@ -1,6 +1,5 @@
 -- The numbers of a table of weights: request 105, "over the C boundary the table is bytes, two per number, least first".
-use Rattle.std.specs.Prelude.{ℕ, ◌+◌, ◌*◌, ◌≤◌, ◌≡◌, List, [], ◌∷◌, cond, length, take, eqb}
-use Rattle.library.specs.declared.Table.{Table}
+use Rattle.std.specs.Prelude.{ℕ, ◌+◌, ◌*◌, ◌≡◌, List, [], ◌∷◌, cond, length, eqb, Option, IfSome, unwrap_or}
 
 unfoldable pub pair_of : ℕ → ℕ → ℕ
 pair_of a b = a + 256 * b
@@ -15,8 +14,7 @@ pairs_of (a ∷ b ∷ rest) = pair_of a b ∷ pairs_of rest
 unfoldable pub table_of : List ℕ → List ℕ
 table_of bytes = cond (eqb (length bytes) 30) (pairs_of bytes) []
 
--- the first `count` values are the table's numbers
-pub record ReadTable (bytes : List ℕ) (r : Table) : Type 0 where
-  pub whole : length r.values ≡ 15
-  pub count : r.count ≤ 15
-  pub values : take r.count r.values ≡ table_of bytes
+-- the table's numbers, or none where the bytes are no table
+pub record ReadTable (bytes : List ℕ) (r : Option (List ℕ)) : Type 0 where
+  pub whole : IfSome r (λ values. length values ≡ 15)
+  pub values : unwrap_or r [] ≡ table_of bytes

@@ -7,12 +7,13 @@ use native.Mathlib.Omega.{arith}
 use native.Mathlib.Decide.{dec_lt}
 use lib.ListN.{length, take, get_or, length-take, length-map, get_or-eq_default}
 use lib.Seq.{get_or-take}
+use Rattle.std.proofs.lemmas.List.{get_or-map}
 use Rattle.tasklist.specs.declared.Cell.{Cell}
 use Rattle.tasklist.specs.declared.Line.{Line}
 use Rattle.tasklist.specs.declared.Tables.{Tables}
 use Rattle.tasklist.specs.TaskList.{body_of, footprint_of, instruction_of, blank_instruction}
 use Rattle.tasklist.specs.Tables.{rows, list_of, instructions}
-use Rattle.tasklist.proofs.PlaceLaws.{row_length, row_none, row_place, Within, within, getD_held}
+use Rattle.tasklist.proofs.PlaceLaws.{row_length, row_none, row_place, Within, within}
 
 -- the size of row s, of which at most `width` count, where the first `used` of 32 rows stand for something
 module _ (used : ℕ) (sizes : List ℕ) (width s : ℕ) where
@@ -43,8 +44,8 @@ module _ (t : Tables) (s : ℕ) (n : length t.sizes ≡ 32) where
   unfolding list_of body_of
   inside_body i h = within 32 t.bodies t.sizes (instructions t.cells) s i h
 
-  pub body_below : (i : ℕ) → i < length (body_of (list_of t) s) → s < 32
-  body_below i h = omega (arith, (inside_body i h).row_below)
+  pub instruction_place : (i : ℕ) → i < length (body_of (list_of t) s) → (s < 32) × (i < 32)
+  instruction_place i h = let p = inside_body i h in (omega (arith, p.row_below), p.place_below)
 
   module _ (m : length t.cells ≡ 1024) where
     held : length (instructions t.cells) ≡ 1024
@@ -62,7 +63,7 @@ module _ (t : Tables) (s : ℕ) (n : length t.sizes ≡ 32) where
         row_length 32 t.bodies t.sizes (instructions t.cells) s p.used_row (omega (arith, held)) in
         sym
         (row_place 32 t.bodies t.sizes (instructions t.cells) s i blank_instruction blank_instruction p.used_row (omega (arith, size)) (omega (arith, held)) ∙
-        getD_held (λ (c : Cell). c.instruction) t.cells (32 * s + i) d blank_instruction (omega arith))
+        get_or-map (λ (c : Cell). c.instruction) t.cells (32 * s + i) d blank_instruction (omega arith))
 
 -- a footprint and its lines
 module _ (t : Tables) (f : ℕ) (n : length t.widths ≡ 32) where
@@ -70,8 +71,8 @@ module _ (t : Tables) (f : ℕ) (n : length t.widths ≡ 32) where
   unfolding list_of footprint_of
   inside_footprint j h = within 8 t.footprints t.widths t.lines f j h
 
-  pub footprint_below : (j : ℕ) → j < length (footprint_of (list_of t) f) → f < 32
-  footprint_below j h = omega (arith, (inside_footprint j h).row_below)
+  pub line_place : (j : ℕ) → j < length (footprint_of (list_of t) f) → (f < 32) × (j < 8)
+  line_place j h = let p = inside_footprint j h in (omega (arith, p.row_below), p.place_below)
 
   module _ (m : length t.lines ≡ 256) where
     pub footprint_size_is : min (get_or (take (min t.footprints 32) t.widths) f 0) 8 ≡ length (footprint_of (list_of t) f)

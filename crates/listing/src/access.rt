@@ -4,34 +4,34 @@ ghost use Rattle.tasklist.specs.TaskList.{body_of, footprint_of, instruction_of}
 ghost use Rattle.tasklist.specs.Accepted.{blank_line};
 ghost use Rattle.tasklist.specs.Tables.{list_of};
 
-use tasklist::{Instruction, Line, Tables, clamped, count_at};
+use tasklist::{Instruction, Line, Tables};
 
 // How many footprints the list has.
+#[tactic(auto, using(tasklist::proofs::PlaceLaws::footprint_count_is))]
 pub fn footprint_count(tables: Tables) -> usize
     ensures { result ≡ length (list_of tables).footprints }
 {
-    clamped(tables.footprints, 32)
+    usize::from(tables.footprints).min(32)
 }
 
 // How many bodies the list has.
+#[tactic(auto, using(tasklist::proofs::PlaceLaws::body_count_is))]
 pub fn body_count(tables: Tables) -> usize
     ensures { result ≡ length (list_of tables).bodies }
 {
-    clamped(tables.bodies, 32)
+    usize::from(tables.bodies).min(32)
 }
 
 // How many places of row `s` are used, where the first `count` of 32 rows are, each as its size says but at most `width`.
 pub fn row_size(count: u8, sizes: &[u8; 32], width: usize, s: usize) -> usize
     ensures { (result ≡ min (get_or (take (min count 32) sizes.now) s 0) width) × (result ≤ width) × (0 < result → s < 32) }
 {
-    if s < clamped(count, 32) {
-        clamped(sizes[s], width)
-    } else {
-        0
-    }
+    let used = &sizes[..usize::from(count).min(32)];
+    usize::from(used.get(s).copied().unwrap_or(0)).min(width)
 }
 
 // How many lines footprint `f` has, 0 where there is none.
+#[tactic(auto, using(crate::proofs::AccessLaws::footprint_size_is))]
 pub fn footprint_size(tables: Tables, f: usize) -> usize
     ensures { result ≡ length (footprint_of (list_of tables) f) }
 {
@@ -39,6 +39,7 @@ pub fn footprint_size(tables: Tables, f: usize) -> usize
 }
 
 // How many instructions body `s` has, 0 where there is none.
+#[tactic(auto, using(crate::proofs::AccessLaws::body_size_is))]
 pub fn body_size(tables: Tables, s: usize) -> usize
     ensures { result ≡ length (body_of (list_of tables) s) }
 {
@@ -46,6 +47,7 @@ pub fn body_size(tables: Tables, s: usize) -> usize
 }
 
 // Line `j` of footprint `f`; where there is none, the blank one (kind 0, value 0).
+#[tactic(auto, using(crate::proofs::AccessLaws::line_place, crate::proofs::AccessLaws::line_is))]
 pub fn line_at(tables: Tables, f: usize, j: usize) -> Line
     ensures { result ≡ get_or (footprint_of (list_of tables) f) j blank_line }
 {
@@ -57,12 +59,12 @@ pub fn line_at(tables: Tables, f: usize, j: usize) -> Line
 }
 
 // The instruction at place `i` of body `s`; where there is none, the blank one (const R0 0).
+#[tactic(auto, using(crate::proofs::AccessLaws::instruction_place, crate::proofs::AccessLaws::instruction_is), unfolding(tasklist::specs::TaskList::instruction_of))]
 pub fn instruction_at(tables: Tables, s: usize, i: usize) -> Instruction
     ensures { result ≡ instruction_of (list_of tables) s i }
 {
     if i < body_size(tables, s) {
-        let cell = tables.cells[32 * s + i];
-        cell.instruction
+        tables.cells[32 * s + i].instruction
     } else {
         Instruction::Const {
             target: 0,
@@ -75,5 +77,5 @@ pub fn instruction_at(tables: Tables, s: usize, i: usize) -> Instruction
 pub fn task_count(tables: Tables, s: usize) -> u8
     ensures { result ≡ get_or tables.counts s 1 }
 {
-    count_at(&tables.counts, s)
+    tables.counts.get(s).copied().unwrap_or(1)
 }

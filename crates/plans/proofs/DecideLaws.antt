@@ -1,5 +1,5 @@
 -- What is decided of a call, and what a sound run says of a task. Assumes nothing.
-use Rattle.std.proofs.Common.{◌≡◌, ℕ, ◌<◌, true, false, List, take, sym, refl, ap, ◌∙◌, arith, le-ltb, lt-ltb}
+use Rattle.std.proofs.Common.{Result, Ok, Err, ◌≡◌, ℕ, ◌<◌, true, false, List, take, sym, refl, ap, ◌∙◌, arith, le-ltb, lt-ltb}
 use Rattle.tasklist.specs.Accepted.{Accepted}
 use Rattle.tasklist.specs.Tables.{list_of}
 use Rattle.tasklist.proofs.Guarantees.{accepted_list}
@@ -8,17 +8,20 @@ use Rattle.semantics.specs.Run.{task_of}
 use Rattle.semantics.specs.Access.{Access}
 use Rattle.semantics.specs.Effect.{Effect}
 use Rattle.semantics.specs.Plan.{Action, plan}
-use Rattle.semantics.specs.Call.{refuse, admit, settle, among, decide}
-use Rattle.semantics.specs.Answers.{task_from}
+use Rattle.semantics.specs.declared.CallRefusal.{CallRefusal}
+use Rattle.semantics.specs.Call.{Outcome, refuse, accept, admit, settle, among, decide}
+use Rattle.semantics.specs.Answers.{refusal_number, task_from}
 use Rattle.semantics.specs.Sound.{In}
 use Rattle.semantics.proofs.Bounds.{order_below}
 use Rattle.semantics.proofs.Search.{Asks}
 use Rattle.arrays.specs.Rows.{row}
 use Rattle.ahead.specs.Ahead.{hold_ahead}
 use Rattle.ahead.specs.declared.Hold.{Hold}
+use Rattle.ahead.specs.declared.Hold.TheVariants.{Free, Writer, Others}
 use Rattle.ahead.proofs.SearchLaws.{outcome_by, admit_by}
 use Rattle.plans.specs.View.{Parts, model, context_of, SoundRun, blank_record, Placed, no_record, record_of}
 use Rattle.plans.specs.Calls.{decided}
+use Rattle.plans.specs.Steps.{past}
 use Rattle.plans.proofs.ViewLaws.{task_is}
 
 -- What is decided, test by test.
@@ -37,6 +40,16 @@ module _ (run : Parts) (n : ℕ) where
       unfolding decide
       by_plan a = rw (lt-ltb n 128 below, listed) refl
 
+-- what a look at the tasks ahead makes of a call with this effect
+abbrev pub looked_to : Result Unit CallRefusal → Effect → Outcome
+looked_to (Ok done) e = accept e
+looked_to (Err k) e = refuse (refusal_number k)
+
+by_hold : (h : Hold) (e : Effect) → outcome_by h e ≡ looked_to (past h) e
+by_hold Free e = refl
+by_hold Writer e = refl
+by_hold Others e = refl
+
 -- A sound run's list and records.
 module _ (run : Parts) (s : SoundRun run) where
   pub list_accepted : Accepted (list_of run.tables)
@@ -53,10 +66,14 @@ module _ (run : Parts) (s : SoundRun run) where
 
   -- the search from the front is the model's look at the tasks ahead
   pub looks_ahead :
-      (n place : ℕ) (gs : List Access) → Placed run n place → ((g : Access) → In g gs → Asks (model run) n g) → (h : Hold)
-      → h ≡ hold_ahead run.modes (take place run.order) gs → (e : Effect) → admit (model run) n gs e ≡ outcome_by h e
-  looks_ahead n place gs p asks h q e =
-      admit_by (model run) n run.modes rows_same gs asks h (q ∙ ap (λ l. hold_ahead run.modes l gs) (sym p.ahead_of)) e
+      (n place : ℕ) (gs : List Access) → Placed run n place → ((g : Access) → In g gs → Asks (model run) n g)
+      → (r : Result Unit CallRefusal) → r ≡ past (hold_ahead run.modes (take place run.order) gs) → (e : Effect)
+      → admit (model run) n gs e ≡ looked_to r e
+  looks_ahead n place gs p asks r q e =
+      admit_by (model run) n run.modes rows_same gs asks (hold_ahead run.modes (take place run.order) gs)
+      (ap (λ l. hold_ahead run.modes l gs) (sym p.ahead_of)) e
+      ∙ by_hold (hold_ahead run.modes (take place run.order) gs) e
+      ∙ ap (λ x. looked_to x e) (sym q)
 
 -- The task's own state.
 pub own_state : (run : Parts) (n : ℕ) → n < 128 → SoundRun run → (task_of (model run) n).state ≡ (record_of run n).state

@@ -1,5 +1,5 @@
 -- What each instruction comes to, in the code's terms. Assumes nothing.
-use Rattle.std.proofs.Common.{◌≡◌, ℕ, zero, suc, ◌+◌, ◌-◌, ◌*◌, ◌%◌, ◌^◌, ◌<◌, ◌≤◌, Bool, true, false, cond, ltb, ◌≢◌, ◌⊎◌, List, [], ◌∷◌, length, get_or, take, sym, refl, ap, ◌∙◌, subst, inl, inr, arith, get_or-take, eq-eqb, ne_eqb}
+use Rattle.std.proofs.Common.{◌≡◌, ℕ, zero, suc, ◌+◌, ◌-◌, ◌*◌, ◌%◌, ◌^◌, ◌<◌, Bool, true, false, cond, ltb, ◌≢◌, List, [], ◌∷◌, length, get_or, take, sym, refl, ap, ◌∙◌, subst, inl, inr, arith, get_or-take, eq-eqb, ne_eqb, Result, Ok, Err, Option, None, Some}
 use native.Mathlib.Decide.{dec_lt}
 use Rattle.tasklist.specs.declared.Instruction.{Instruction}
 use Rattle.tasklist.specs.declared.Instruction.TheVariants.{Const, Add, Sub, Less, Load, Store, Skip, Spawn, Wait, Fan, Sum, Mul, Div}
@@ -7,11 +7,14 @@ use Rattle.tasklist.specs.TaskList.{footprint_of, instruction_of}
 use Rattle.tasklist.specs.Encode.{instruction_fields}
 use Rattle.tasklist.specs.Tables.{list_of}
 use Rattle.semantics.specs.declared.CallRefusal.{CallRefusal}
+use Rattle.semantics.specs.declared.Fault.{Fault}
+use Rattle.semantics.specs.declared.Fault.TheVariants.{Outside, Mode, TooLarge, ZeroDivisor}
+use Rattle.semantics.specs.Answers.{fault_number}
 use Rattle.semantics.specs.Run.{Task, weight_of, mode_of, register, task_of}
 use Rattle.semantics.specs.Run as Semantics
 use Rattle.semantics.specs.Access.{Access, every, access_fault}
-use Rattle.semantics.specs.Effect.{Effect, Plan, go, own, faulted, assigned, passes, storing, adding}
-use Rattle.semantics.specs.Plan.{step, wrap, unless_fault, plan_load, plan_store, plan_wait, plan_sum, passed_over, plan_make, plan_quotient, plan_instruction, units, step_weight, at_end, plan_step, plan}
+use Rattle.semantics.specs.Effect.{Effect, Plan, go, fetch, own, moved, faulted, assigned, storing, adding}
+use Rattle.semantics.specs.Plan.{step, unless_fault, plan_load, plan_store, plan_wait, plan_sum, passed_over, plan_make, plan_quotient, plan_instruction, units, step_weight, at_end, plan_step, plan}
 use Rattle.semantics.specs.Footprint.{children, first_register}
 use Rattle.semantics.specs.Call.{refuse, accept, admit, settle}
 use Rattle.semantics.specs.Sound.{In}
@@ -19,78 +22,78 @@ use Rattle.semantics.proofs.SoundModes.{none_grants}
 use Rattle.semantics.proofs.Search.{Asks}
 use Rattle.arrays.specs.Rows.{row}
 use Rattle.ahead.specs.Ahead.{access, accesses_of, hold_ahead}
-use Rattle.ahead.specs.declared.Hold.{Hold}
-use Rattle.ahead.specs.declared.Wanted.{Wanted}
-use Rattle.tables.specs.Children.{seen_from}
-use Rattle.records.specs.declared.Quotient.{Quotient}
-use Rattle.records.specs.declared.Quotient.TheVariants as Came
+use Rattle.ahead.specs.declared.Access as Asked
 use Rattle.records.specs.Quotients.{QuotientIs}
 use Rattle.arrays.proofs.RowLaws.{row_past}
+use Rattle.tables.specs.Children.{seen_from}
 use Rattle.tables.proofs.ChildLaws.{seen_alone, seen_fan}
-use Rattle.ahead.proofs.SearchLaws.{outcome_by}
+use Rattle.grants.specs.Grants.{fault_of}
 use Rattle.grants.proofs.GrantLaws.{own_other}
-use Rattle.plans.specs.declared.Access.TheVariants as Found
+use Rattle.plans.specs.declared.Stop.{Stop}
+use Rattle.plans.specs.declared.Stop.TheVariants as Stops
 use Rattle.plans.specs.declared.StepPlan.{StepPlan}
 use Rattle.plans.specs.declared.StepPlan.TheVariants as Planned
 use Rattle.plans.specs.View.{Parts, model, context_of, SoundRun, Placed, record_of}
 use Rattle.plans.specs.Calls.{decided}
-use Rattle.plans.specs.Steps.{fault_at, AccessAs, planned, quotient_plan, settled, Plans, PlansFree, FreeAs, WaitAs}
+use Rattle.plans.specs.Steps.{past, fault_at, AccessAs, AccessIn, looking, planned, settled, Plans, PlansIn}
 use Rattle.plans.proofs.ViewLaws.{mode_is}
 use Rattle.plans.proofs.DecideLaws.{by_plan, own_task, looks_ahead, own_state}
 
-pub either : {A B C : Type 0} → A ⊎ B → (A → C) → (B → C) → C
-either (inl a) f g = f a
-either (inr b) f g = g b
-
--- what comes of an access that has no fault, by what the tasks ahead do to it
-abbrev pub AccessBy : Parts → ℕ → ℕ → ℕ → ℕ → ℕ → Hold → Type 0
-AccessBy run n place a tested asked h =
-    SoundRun run → Placed run n place
-    → (fault_at run n a tested ≡ 0)
-    × (asked ≢ 0 → (e : Effect) → admit (model run) n (access a asked ∷ []) e ≡ outcome_by h e)
+some_fault : (k : Fault) → fault_number k ≢ 0
+some_fault Outside q = omega arith
+some_fault Mode q = omega arith
+some_fault TooLarge q = omega arith
+some_fault ZeroDivisor q = omega arith
 
 -- What comes of an access.
 module _
-    (run : Parts) (n place a tested asked mode fault : ℕ) (look : length run.modes ≡ 8192 → mode ≡ get_or (row n run.modes) a 0)
-    (by_mode : fault ≡ access_fault mode tested)
+    (run : Parts) (n place a tested asked mode : ℕ) (look : length run.modes ≡ 8192 → mode ≡ get_or (row n run.modes) a 0)
+    (found : Option Fault) (by_mode : fault_of found ≡ access_fault mode tested)
   where
-    known : SoundRun run → fault_at run n a tested ≡ fault
+    known : SoundRun run → fault_at run n a tested ≡ fault_of found
     known s =
         ap (λ m. access_fault m tested) (sym (look s.modes ∙ mode_is run n a s.records s.modes)) ∙ sym by_mode
 
-    pub access_faults : fault ≢ 0 → AccessAs run n place a tested asked (Found.Fault fault)
-    access_faults h = (h, known)
+    pub access_faults : (k : Fault) → found ≡ Some k → AccessAs run n place a tested asked (Err (Stops.Fault k))
+    access_faults k q = λ s. known s ∙ ap fault_of q
 
-    pub access_looked :
-        fault ≡ 0 → (w : Wanted) → (a < 64 → accesses_of w ≡ access a asked ∷ []) → (h : Hold)
-        → (length run.order ≡ 128 → length run.modes ≡ 8192
-        → h ≡ hold_ahead run.modes (take place run.order) (accesses_of w))
-        → (x : Hold) → h ≡ x → AccessBy run n place a tested asked x
-    access_looked none w one h searched x is s p = (
-      granted,
-      λ z e.
-          looks_ahead run s n place (access a asked ∷ []) p (asks z) h
-          (searched s.order s.modes ∙ ap (hold_ahead run.modes (take place run.order)) (one near)) e
-          ∙ ap (λ y. outcome_by y e) is,
-    )
-      where
-        granted : fault_at run n a tested ≡ 0
-        granted = known s ∙ none
+    module _ (none : found ≡ None) (w : List Asked.Access) (one : a < 64 → accesses_of w ≡ access a asked ∷ []) where
+      granted : SoundRun run → fault_at run n a tested ≡ 0
+      granted s = known s ∙ ap fault_of none
 
-        queued : mode_of (task_of (model run) n) a ≡ 0 → ⊥
-        queued q = none_grants tested (subst (λ o. access_fault o tested ≡ 0) q granted)
+      queued : SoundRun run → mode_of (task_of (model run) n) a ≡ 0 → ⊥
+      queued s q = none_grants tested (subst (λ o. access_fault o tested ≡ 0) q (granted s))
 
-        near : a < 64
-        near = sort (dec_lt a 64)
-          where
-            sort : Dec (a < 64) → a < 64
-            sort (yes l) = l
-            sort (no l) = absurd (queued (sym (mode_is run n a s.records s.modes) ∙ sym (row_past n a run.modes (omega arith))))
+      near : SoundRun run → a < 64
+      near s = sort (dec_lt a 64)
+        where
+          sort : Dec (a < 64) → a < 64
+          sort (yes l) = l
+          sort (no l) = absurd (queued s (sym (mode_is run n a s.records s.modes) ∙ sym (row_past n a run.modes (omega arith))))
 
-        asks : asked ≢ 0 → (g : Access) → In g (access a asked ∷ []) → Asks (model run) n g
-        asks z g (inl q) =
-            record { queued = λ o. queued (ap (λ (y : Access). mode_of (task_of (model run) n) y.location) (sym q) ∙ o); asked = λ o. z (ap (λ (y : Access). y.mode) (sym q) ∙ o) }
-        asks z g (inr i) = absurd i
+      asks : SoundRun run → asked ≢ 0 → (g : Access) → In g (access a asked ∷ []) → Asks (model run) n g
+      asks s z g (inl q) =
+          record {
+            queued = λ o. queued s (ap (λ (y : Access). mode_of (task_of (model run) n) y.location) (sym q) ∙ o);
+            asked = λ o. z (ap (λ (y : Access). y.mode) (sym q) ∙ o);
+          }
+      asks s z g (inr i) = absurd i
+
+      module _
+          (looked : Result Unit CallRefusal)
+          (searched : length run.order ≡ 128 → length run.modes ≡ 8192
+          → looked ≡ past (hold_ahead run.modes (take place run.order) (accesses_of w)))
+        where
+          looked_is : SoundRun run → looked ≡ past (hold_ahead run.modes (take place run.order) (access a asked ∷ []))
+          looked_is s = searched s.order s.modes ∙ ap (λ gs. past (hold_ahead run.modes (take place run.order) gs)) (one (near s))
+
+          pub access_free : looked ≡ Ok tt → AccessAs run n place a tested asked (Ok tt)
+          access_free q =
+              λ s p. (granted s, λ z e. looks_ahead run s n place (access a asked ∷ []) p (asks s z) (Ok tt) (sym q ∙ looked_is s) e)
+
+          pub access_held : (k : CallRefusal) → looked ≡ Err k → AccessAs run n place a tested asked (Err (Stops.Held k))
+          access_held k q =
+              λ s p. (granted s, λ z e. looks_ahead run s n place (access a asked ∷ []) p (asks s z) (Err k) (sym q ∙ looked_is s) e)
 
 -- "Faults come before waiting"
 module _ (r : Semantics.Run) (n w : ℕ) (t : Task) (q : Plan) where
@@ -101,6 +104,14 @@ module _ (r : Semantics.Run) (n w : ℕ) (t : Task) (q : Plan) where
 
   settle_none : (f : ℕ) → f ≡ 0 → settle r n (unless_fault f w t q) ≡ settle r n q
   settle_none f e = ap (λ x. settle r n (unless_fault x w t q)) e ∙ (unfold unless_fault in refl)
+
+-- a value that is fetched is that of the memory
+settle_fetch :
+    (r : Semantics.Run) (n w : ℕ) (t : Task) (f a : ℕ) (g : ℕ → Effect)
+    → settle r n (unless_fault f w t (fetch a g)) ≡ settle r n (unless_fault f w t (go (access a 1 ∷ []) (g (get_or r.memory a 0))))
+unfolding unless_fault settle
+settle_fetch r n w t zero a g = refl
+settle_fetch r n w t (suc k) a g = refl
 
 -- an access without fault is to a location of the list
 inside : (run : Parts) (n a asked : ℕ) → SoundRun run → fault_at run n a asked ≡ 0 → a < run.tables.locations
@@ -115,288 +126,257 @@ inside run n a asked s f = sort (dec_lt a run.tables.locations)
         own_other 0 asked (λ q. omega arith) (λ q. omega arith) (λ q. omega arith) ∙ ap (λ m. access_fault m asked) (sym beyond) ∙ f in
         let z : ⊥ = omega arith in absurd z
 
--- The four that may wait, by what comes of their access.
-module _ (run : Parts) (n place : ℕ) (below : n < 128) where
-  named : SoundRun run → (x a : ℕ) → a ≡ get_or (record_of run n).registers x 0 → register (task_of (model run) n) x ≡ a
-  named s x a q = ap (λ t. get_or t.registers x 0) (own_task run s n below) ∙ sym q
+-- What each instruction of a task with these registers comes to.
+module _ (order modes memory rs : List ℕ) (n place : ℕ) (below : n < 128) where
+  -- the run that a plan looks at
+  abbrev it : Parts → Parts
+  it run = looking order modes run
 
-  -- the mode that was read is the task's own
-  own_mode :
-      SoundRun run → (a asked : ℕ) → (length run.modes ≡ 8192 → asked ≡ get_or (row n run.modes) a 0)
-      → asked ≡ mode_of (task_of (model run) n) a
-  own_mode s a asked mode = mode s.modes ∙ mode_is run n a s.records s.modes
+  -- the task in it
+  abbrev own_of : Parts → Task
+  own_of run = task_of (model (it run)) n
 
-  -- what the task's own mode allows is not nothing
-  asks_some :
-      SoundRun run → (a tested asked : ℕ) → (length run.modes ≡ 8192 → asked ≡ get_or (row n run.modes) a 0)
-      → fault_at run n a tested ≡ 0 → asked ≢ 0
-  asks_some s a tested asked mode f z =
-      none_grants tested (subst (λ o. access_fault o tested ≡ 0) (sym (own_mode s a asked mode) ∙ z) f)
+  registers_are : (run : Parts) → (record_of run n).registers ≡ rs → SoundRun (it run) → (own_of run).registers ≡ rs
+  registers_are run e s = ap (λ t. t.registers) (own_task (it run) s n below) ∙ e
 
-  module _ (target x a : ℕ) (at : a ≡ get_or (record_of run n).registers x 0) where
-    load_at :
-        SoundRun run → (w : ℕ)
-        → settled run n w (Load target x) ≡ settle (model run) n (plan_load w (task_of (model run) n) target a)
-    unfolding settled plan_instruction
-    load_at s w = ap (λ l. settle (model run) n (plan_load w (task_of (model run) n) target l)) (named s x a at)
+  named :
+      (run : Parts) → (record_of run n).registers ≡ rs → SoundRun (it run) → (x v : ℕ) → v ≡ get_or rs x 0 → register (own_of run) x ≡ v
+  named run e s x v q = ap (λ l. get_or l x 0) (registers_are run e s) ∙ sym q
 
-    pub load_fault : (k : ℕ) → AccessAs run n place a 1 1 (Found.Fault k) → Plans run n place (Load target x) (Planned.Fault k)
-    unfolding plan_load planned
-    load_fault k h = λ s p w. load_at s w ∙ settle_fault (model run) n w (task_of (model run) n) _ _ k (h.1 s) h.0
-
-    pub load_held : (k : CallRefusal) → AccessAs run n place a 1 1 (Found.Held k) → Plans run n place (Load target x) (Planned.Held k)
-    unfolding plan_load planned settle
-    load_held k h =
-        λ s p w.
-        load_at s w ∙ settle_none (model run) n w (task_of (model run) n) _ _ (h s p).0
-        ∙ (h s p).1 (λ q. omega arith) _
-
-    pub load_free :
-        (v : ℕ) → v ≡ get_or run.memory a 0 → AccessAs run n place a 1 1 Found.Free
-        → Plans run n place (Load target x) (Planned.Assign target v)
-    unfolding plan_load planned settle model
-    load_free v q h =
-        λ s p w.
-        load_at s w ∙ settle_none (model run) n w (task_of (model run) n) _ _ (h s p).0
-        ∙ (h s p).1 (λ q. omega arith) _
-        ∙ ap (λ z. accept (own w (assigned target z (task_of (model run) n))))
-        (get_or-take run.tables.locations run.memory a 0 (inside run n a 1 s (h s p).0) ∙ sym q)
-
-  module _ (to source a : ℕ) (at : a ≡ get_or (record_of run n).registers to 0) where
-    store_at :
-        SoundRun run → (w : ℕ)
-        → settled run n w (Store to source)
-        ≡ settle (model run) n (plan_store w (task_of (model run) n) a (register (task_of (model run) n) source))
-    unfolding settled plan_instruction
-    store_at s w =
-        ap (λ l. settle (model run) n (plan_store w (task_of (model run) n) l (register (task_of (model run) n) source)))
-        (named s to a at)
-
-    pub store_fault : (k : ℕ) → AccessAs run n place a 2 2 (Found.Fault k) → Plans run n place (Store to source) (Planned.Fault k)
-    unfolding plan_store planned
-    store_fault k h = λ s p w. store_at s w ∙ settle_fault (model run) n w (task_of (model run) n) _ _ k (h.1 s) h.0
-
-    pub store_held : (k : CallRefusal) → AccessAs run n place a 2 2 (Found.Held k) → Plans run n place (Store to source) (Planned.Held k)
-    unfolding plan_store planned settle
-    store_held k h =
-        λ s p w.
-        store_at s w ∙ settle_none (model run) n w (task_of (model run) n) _ _ (h s p).0
-        ∙ (h s p).1 (λ q. omega arith) _
-
-    pub store_free :
-        (v : ℕ) → v ≡ get_or (record_of run n).registers source 0 → AccessAs run n place a 2 2 Found.Free
-        → Plans run n place (Store to source) (Planned.Store a v)
-    unfolding plan_store planned settle
-    store_free v q h =
-        λ s p w.
-        store_at s w ∙ settle_none (model run) n w (task_of (model run) n) _ _ (h s p).0
-        ∙ (h s p).1 (λ q. omega arith) _
-        ∙ ap (λ z. accept (storing w a z (task_of (model run) n))) (named s source v q)
-
+  -- An instruction that begins with an access: it ends as the access does, or has this effect.
   module _
-      (x a asked : ℕ) (at : a ≡ get_or (record_of run n).registers x 0)
-      (mode : length run.modes ≡ 8192 → asked ≡ get_or (row n run.modes) a 0)
+      (i : Instruction) (a tested asked : ℕ) (effect : Parts → ℕ → Effect)
+      (begins : (run : Parts) → (record_of run n).registers ≡ rs → SoundRun (it run) → (w : ℕ)
+      → settled (it run) n w i
+      ≡ settle (model (it run)) n
+      (unless_fault (fault_at (it run) n a tested) w (own_of run) (go (access a asked ∷ []) (effect run w))))
+      (asks : (run : Parts) → SoundRun (it run) → fault_at (it run) n a tested ≡ 0 → asked ≢ 0)
     where
-      wait_at :
-          SoundRun run → (w : ℕ)
-          → settled run n w (Wait x)
-          ≡ settle (model run) n
-          (unless_fault (fault_at run n a asked) w (task_of (model run) n) (passes w (access a asked ∷ []) (task_of (model run) n)))
+      plan_ends : (k : Stop) → AccessIn order modes n place a tested asked (Err k) → PlansIn order modes memory rs n place i (Err k)
+      unfolding planned settle
+      plan_ends (Stops.Fault k) h =
+          λ run m e s p w.
+          begins run e s w ∙ settle_fault (model (it run)) n w (own_of run) _ _ (fault_number k) (h run s) (some_fault k)
+      plan_ends (Stops.Held k) h =
+          λ run m e s p w.
+          begins run e s w ∙ settle_none (model (it run)) n w (own_of run) _ _ (h run s p).0
+          ∙ (h run s p).1 (asks run s (h run s p).0) (effect run w)
+
+      plan_goes :
+          (x : StepPlan)
+          → ((run : Parts) → run.memory ≡ memory → (record_of run n).registers ≡ rs → SoundRun (it run)
+          → fault_at (it run) n a tested ≡ 0 → (w : ℕ) → accept (effect run w) ≡ planned (it run) n w (Ok x))
+          → AccessIn order modes n place a tested asked (Ok tt) → PlansIn order modes memory rs n place i (Ok x)
+      unfolding settle
+      plan_goes x is h =
+          λ run m e s p w.
+          begins run e s w ∙ settle_none (model (it run)) n w (own_of run) _ _ (h run s p).0
+          ∙ (h run s p).1 (asks run s (h run s p).0) (effect run w)
+          ∙ is run m e s (h run s p).0 w
+
+  module _ (target x a : ℕ) (at : a ≡ get_or rs x 0) where
+    abbrev load_effect : Parts → ℕ → Effect
+    load_effect run w = own w (assigned target (get_or (model (it run)).memory a 0) (own_of run))
+
+    load_begins :
+        (run : Parts) → (record_of run n).registers ≡ rs → SoundRun (it run) → (w : ℕ)
+        → settled (it run) n w (Load target x)
+        ≡ settle (model (it run)) n
+        (unless_fault (fault_at (it run) n a 1) w (own_of run) (go (access a 1 ∷ []) (load_effect run w)))
+    unfolding settled plan_instruction plan_load
+    load_begins run e s w =
+        ap (λ l. settle (model (it run)) n (plan_load w (own_of run) target l)) (named run e s x a at)
+        ∙ settle_fetch (model (it run)) n w (own_of run) (fault_at (it run) n a 1) a (λ v. own w (assigned target v (own_of run)))
+
+    pub load_ends : (k : Stop) → AccessIn order modes n place a 1 1 (Err k) → PlansIn order modes memory rs n place (Load target x) (Err k)
+    load_ends = plan_ends (Load target x) a 1 1 load_effect load_begins (λ run s f q. omega arith)
+
+    pub load_goes :
+        (v : ℕ) → v ≡ get_or memory a 0 → AccessIn order modes n place a 1 1 (Ok tt)
+        → PlansIn order modes memory rs n place (Load target x) (Ok (Planned.Assign target v))
+    unfolding planned model
+    load_goes v q =
+        plan_goes (Load target x) a 1 1 load_effect load_begins (λ run s f q. omega arith) (Planned.Assign target v)
+        (λ run m e s f w.
+        ap (λ z. accept (own w (assigned target z (own_of run))))
+        (get_or-take run.tables.locations run.memory a 0 (inside (it run) n a 1 s f) ∙ ap (λ l. get_or l a 0) m ∙ sym q))
+
+  module _ (to source a : ℕ) (at : a ≡ get_or rs to 0) where
+    abbrev store_effect : Parts → ℕ → Effect
+    store_effect run w = storing w a (register (own_of run) source) (own_of run)
+
+    store_begins :
+        (run : Parts) → (record_of run n).registers ≡ rs → SoundRun (it run) → (w : ℕ)
+        → settled (it run) n w (Store to source)
+        ≡ settle (model (it run)) n
+        (unless_fault (fault_at (it run) n a 2) w (own_of run) (go (access a 2 ∷ []) (store_effect run w)))
+    unfolding settled plan_instruction plan_store
+    store_begins run e s w =
+        ap (λ l. settle (model (it run)) n (plan_store w (own_of run) l (register (own_of run) source))) (named run e s to a at)
+
+    pub store_ends : (k : Stop) → AccessIn order modes n place a 2 2 (Err k) → PlansIn order modes memory rs n place (Store to source) (Err k)
+    store_ends = plan_ends (Store to source) a 2 2 store_effect store_begins (λ run s f q. omega arith)
+
+    pub store_goes :
+        (v : ℕ) → v ≡ get_or rs source 0 → AccessIn order modes n place a 2 2 (Ok tt)
+        → PlansIn order modes memory rs n place (Store to source) (Ok (Planned.Store a v))
+    unfolding planned
+    store_goes v q =
+        plan_goes (Store to source) a 2 2 store_effect store_begins (λ run s f q. omega arith) (Planned.Store a v)
+        (λ run m e s f w. ap (λ z. accept (storing w a z (own_of run))) (named run e s source v q))
+
+  -- Wait and sum ask in the task's own mode.
+  module _ (a asked : ℕ) (mode : length modes ≡ 8192 → asked ≡ get_or (row n modes) a 0) where
+    own_mode : (run : Parts) → SoundRun (it run) → asked ≡ mode_of (own_of run) a
+    own_mode run s = mode s.modes ∙ mode_is (it run) n a s.records s.modes
+
+    -- what the task's own mode allows is not nothing
+    asks_some : (tested : ℕ) (run : Parts) → SoundRun (it run) → fault_at (it run) n a tested ≡ 0 → asked ≢ 0
+    asks_some tested run s f z = none_grants tested (subst (λ o. access_fault o tested ≡ 0) (sym (own_mode run s) ∙ z) f)
+
+    module _ (x : ℕ) (at : a ≡ get_or rs x 0) where
+      abbrev wait_effect : Parts → ℕ → Effect
+      wait_effect run w = own w (moved 1 (own_of run).registers (own_of run))
+
+      wait_begins :
+          (run : Parts) → (record_of run n).registers ≡ rs → SoundRun (it run) → (w : ℕ)
+          → settled (it run) n w (Wait x)
+          ≡ settle (model (it run)) n
+          (unless_fault (fault_at (it run) n a asked) w (own_of run) (go (access a asked ∷ []) (wait_effect run w)))
       unfolding settled plan_instruction plan_wait
-      wait_at s w =
-          ap (λ l. settle (model run) n (plan_wait w (task_of (model run) n) l)) (named s x a at)
-          ∙ ap (λ m.
-          settle (model run) n
-          (unless_fault (fault_at run n a m) w (task_of (model run) n) (passes w (access a m ∷ []) (task_of (model run) n))))
-          (sym (own_mode s a asked mode))
+      wait_begins run e s w =
+          ap (λ l. settle (model (it run)) n (plan_wait w (own_of run) l)) (named run e s x a at)
+          ∙ ap (λ m. settle (model (it run)) n (unless_fault (fault_at (it run) n a m) w (own_of run) (go (access a m ∷ []) (wait_effect run w))))
+          (sym (own_mode run s))
 
-      pub wait_fault : (k : ℕ) → AccessAs run n place a asked asked (Found.Fault k) → Plans run n place (Wait x) (Planned.Fault k)
+      pub wait_ends : (k : Stop) → AccessIn order modes n place a asked asked (Err k) → PlansIn order modes memory rs n place (Wait x) (Err k)
+      wait_ends = plan_ends (Wait x) a asked asked wait_effect wait_begins (asks_some asked)
+
+      pub wait_goes : AccessIn order modes n place a asked asked (Ok tt) → PlansIn order modes memory rs n place (Wait x) (Ok (Planned.Pass 0))
       unfolding planned
-      wait_fault k h = λ s p w. wait_at s w ∙ settle_fault (model run) n w (task_of (model run) n) _ _ k (h.1 s) h.0
+      wait_goes =
+          plan_goes (Wait x) a asked asked wait_effect wait_begins (asks_some asked) (Planned.Pass 0) (λ run m e s f w. refl)
 
-      pub wait_held : (k : CallRefusal) → AccessAs run n place a asked asked (Found.Held k) → Plans run n place (Wait x) (Planned.Held k)
-      unfolding planned settle
-      wait_held k h =
-          λ s p w.
-          wait_at s w ∙ settle_none (model run) n w (task_of (model run) n) _ _ (h s p).0
-          ∙ (h s p).1 (asks_some s a asked asked mode (h s p).0) _
+    module _ (to source : ℕ) (at : a ≡ get_or rs to 0) where
+      abbrev sum_effect : Parts → ℕ → Effect
+      sum_effect run w = adding w a (register (own_of run) source) (own_of run)
 
-      pub wait_free : AccessAs run n place a asked asked Found.Free → Plans run n place (Wait x) (Planned.Pass 0)
-      unfolding planned settle
-      wait_free h =
-          λ s p w.
-          wait_at s w ∙ settle_none (model run) n w (task_of (model run) n) _ _ (h s p).0
-          ∙ (h s p).1 (asks_some s a asked asked mode (h s p).0) _
-
-  module _
-      (to source a asked : ℕ) (at : a ≡ get_or (record_of run n).registers to 0)
-      (mode : length run.modes ≡ 8192 → asked ≡ get_or (row n run.modes) a 0)
-    where
-      sum_at :
-          SoundRun run → (w : ℕ)
-          → settled run n w (Sum to source)
-          ≡ settle (model run) n
-          (unless_fault (fault_at run n a 3) w (task_of (model run) n)
-          (go (access a asked ∷ []) (adding w a (register (task_of (model run) n) source) (task_of (model run) n))))
+      sum_begins :
+          (run : Parts) → (record_of run n).registers ≡ rs → SoundRun (it run) → (w : ℕ)
+          → settled (it run) n w (Sum to source)
+          ≡ settle (model (it run)) n
+          (unless_fault (fault_at (it run) n a 3) w (own_of run) (go (access a asked ∷ []) (sum_effect run w)))
       unfolding settled plan_instruction plan_sum
-      sum_at s w =
-          let t = task_of (model run) n in
-          ap (λ l. settle (model run) n (plan_sum w t l (register t source))) (named s to a at)
-          ∙ ap (λ m. settle (model run) n (unless_fault (fault_at run n a 3) w t (go (access a m ∷ []) (adding w a (register t source) t))))
-          (sym (own_mode s a asked mode))
+      sum_begins run e s w =
+          ap (λ l. settle (model (it run)) n (plan_sum w (own_of run) l (register (own_of run) source))) (named run e s to a at)
+          ∙ ap (λ m. settle (model (it run)) n (unless_fault (fault_at (it run) n a 3) w (own_of run) (go (access a m ∷ []) (sum_effect run w))))
+          (sym (own_mode run s))
 
-      pub sum_fault : (k : ℕ) → AccessAs run n place a 3 asked (Found.Fault k) → Plans run n place (Sum to source) (Planned.Fault k)
+      pub sum_ends : (k : Stop) → AccessIn order modes n place a 3 asked (Err k) → PlansIn order modes memory rs n place (Sum to source) (Err k)
+      sum_ends = plan_ends (Sum to source) a 3 asked sum_effect sum_begins (asks_some 3)
+
+      pub sum_goes :
+          (v : ℕ) → v ≡ get_or rs source 0 → AccessIn order modes n place a 3 asked (Ok tt)
+          → PlansIn order modes memory rs n place (Sum to source) (Ok (Planned.Sum a v))
       unfolding planned
-      sum_fault k h = λ s p w. sum_at s w ∙ settle_fault (model run) n w (task_of (model run) n) _ _ k (h.1 s) h.0
+      sum_goes v q =
+          plan_goes (Sum to source) a 3 asked sum_effect sum_begins (asks_some 3) (Planned.Sum a v)
+          (λ run m e s f w. ap (λ z. accept (adding w a z (own_of run))) (named run e s source v q))
 
-      pub sum_held : (k : CallRefusal) → AccessAs run n place a 3 asked (Found.Held k) → Plans run n place (Sum to source) (Planned.Held k)
-      unfolding planned settle
-      sum_held k h =
-          λ s p w.
-          sum_at s w ∙ settle_none (model run) n w (task_of (model run) n) _ _ (h s p).0
-          ∙ (h s p).1 (asks_some s a 3 asked mode (h s p).0) _
-
-      pub sum_free :
-          (v : ℕ) → v ≡ get_or (record_of run n).registers source 0 → AccessAs run n place a 3 asked Found.Free
-          → Plans run n place (Sum to source) (Planned.Sum a v)
-      unfolding planned settle
-      sum_free v q h =
-          λ s p w.
-          sum_at s w ∙ settle_none (model run) n w (task_of (model run) n) _ _ (h s p).0
-          ∙ (h s p).1 (asks_some s a 3 asked mode (h s p).0) _
-          ∙ ap (λ z. accept (adding w a z (task_of (model run) n))) (named s source v q)
-
--- request 108: a quotient for a register, as its plan
-quotient_planned :
-    (run : Parts) (n w a x d : ℕ) (found : Quotient) → QuotientIs x d found
-    → settle (model run) n (plan_quotient w (task_of (model run) n) a x d) ≡ planned run n w (quotient_plan a found)
-unfolding plan_quotient quotient_plan planned settle admit every
-quotient_planned run n w a x d (Came.Fault k) h = settle_fault (model run) n w (task_of (model run) n) _ _ k h.1 h.0
-quotient_planned run n w a x d (Came.Value v) h =
-    let t = task_of (model run) n in
-    settle_none (model run) n w t _ _ h.0 ∙ ap (λ z. accept (own w (assigned a z t))) h.1
-
--- Those that never wait.
-module _ (rs : List ℕ) where
-  both :
-      (f : ℕ → ℕ → ℕ) (x y l r v : ℕ) (t : Task) → t.registers ≡ rs → l ≡ get_or rs x 0 → r ≡ get_or rs y 0 → v ≡ f l r
-      → f (register t x) (register t y) ≡ v
-  both f x y l r v t h p q e =
-      ap (λ z. f (get_or z x 0) (get_or z y 0)) h ∙ ap (λ z. f z (get_or rs y 0)) (sym p) ∙ ap (f l) (sym q) ∙ sym e
-
-  assigns : (run : Parts) (n w a : ℕ) (u v : ℕ) → u ≡ v → planned run n w (Planned.Assign a u) ≡ planned run n w (Planned.Assign a v)
-  assigns run n w a u v q = ap (λ z. planned run n w (Planned.Assign a z)) q
-
-  pub const_free : (a v u : ℕ) → u ≡ v % 2 ^ 32 → PlansFree rs (Const a v) (Planned.Assign a u)
+  -- Those that never wait.
+  pub const_plans : (a v u : ℕ) → u ≡ v % 2 ^ 32 → PlansIn order modes memory rs n place (Const a v) (Ok (Planned.Assign a u))
   unfolding settled plan_instruction settle admit every planned
-  const_free a v u q =
-      λ run n w h.
-      assigns run n w a (v % 2 ^ 32) u (sym q)
+  const_plans a v u q = λ run m e s p w. ap (λ z. accept (own w (assigned a z (own_of run)))) (sym q)
 
-  module _ (a x y l r u : ℕ) (p : l ≡ get_or rs x 0) (q : r ≡ get_or rs y 0) where
-    pub add_free : u ≡ (l + r) % 2 ^ 32 → PlansFree rs (Add a x y) (Planned.Assign a u)
+  module _ (a x y l r : ℕ) (p : l ≡ get_or rs x 0) (q : r ≡ get_or rs y 0) where
+    both :
+        (f : ℕ → ℕ → ℕ) (run : Parts) → (record_of run n).registers ≡ rs → SoundRun (it run)
+        → f (register (own_of run) x) (register (own_of run) y) ≡ f l r
+    both f run e s = ap (λ z. f z (register (own_of run) y)) (named run e s x l p) ∙ ap (f l) (named run e s y r q)
+
+    -- a value of two registers into a third
+    assigns :
+        (f : ℕ → ℕ → ℕ) (u : ℕ) → u ≡ f l r → (run : Parts) → (record_of run n).registers ≡ rs → SoundRun (it run) → (w : ℕ)
+        → accept (own w (assigned a (f (register (own_of run) x) (register (own_of run) y)) (own_of run)))
+        ≡ accept (own w (assigned a u (own_of run)))
+    assigns f u is run e s w = ap (λ z. accept (own w (assigned a z (own_of run)))) (both f run e s ∙ sym is)
+
+    pub add_plans : (u : ℕ) → u ≡ (l + r) % 2 ^ 32 → PlansIn order modes memory rs n place (Add a x y) (Ok (Planned.Assign a u))
     unfolding settled plan_instruction settle admit every planned
-    add_free e =
-        λ run n w h.
-        let t = task_of (model run) n in
-        assigns run n w a (wrap (register t x + register t y)) u (both (λ i j. (i + j) % 2 ^ 32) x y l r u t h p q e)
+    add_plans u is = λ run m e s o. assigns (λ i j. (i + j) % 2 ^ 32) u is run e s
 
-    pub sub_free : u ≡ (l + 2 ^ 32 - r) % 2 ^ 32 → PlansFree rs (Sub a x y) (Planned.Assign a u)
+    pub sub_plans : (u : ℕ) → u ≡ (l + 2 ^ 32 - r) % 2 ^ 32 → PlansIn order modes memory rs n place (Sub a x y) (Ok (Planned.Assign a u))
     unfolding settled plan_instruction settle admit every planned
-    sub_free e =
-        λ run n w h.
-        let t = task_of (model run) n in
-        assigns run n w a (wrap (register t x + 2 ^ 32 - register t y)) u (both (λ i j. (i + 2 ^ 32 - j) % 2 ^ 32) x y l r u t h p q e)
+    sub_plans u is = λ run m e s o. assigns (λ i j. (i + 2 ^ 32 - j) % 2 ^ 32) u is run e s
 
-    pub less_free : u ≡ cond (ltb l r) 1 0 → PlansFree rs (Less a x y) (Planned.Assign a u)
+    pub less_plans : (u : ℕ) → u ≡ cond (ltb l r) 1 0 → PlansIn order modes memory rs n place (Less a x y) (Ok (Planned.Assign a u))
     unfolding settled plan_instruction settle admit every planned
-    less_free e =
-        λ run n w h.
-        let t = task_of (model run) n in
-        assigns run n w a (cond (ltb (register t x) (register t y)) 1 0) u (both (λ i j. cond (ltb i j) 1 0) x y l r u t h p q e)
+    less_plans u is = λ run m e s o. assigns (λ i j. cond (ltb i j) 1 0) u is run e s
 
-  module _ (a x y l r : ℕ) (p : l ≡ get_or rs x 0) (q : r ≡ get_or rs y 0) (found : Quotient) where
-    pub mul_free : QuotientIs (l * r) 1000 found → PlansFree rs (Mul a x y) (quotient_plan a found)
+    -- request 108: the product's or the quotient's value, or its fault
+    module _ (i : Instruction) (top by : ℕ → ℕ → ℕ)
+        (begins : (run : Parts) (w : ℕ)
+        → settled (it run) n w i
+        ≡ settle (model (it run)) n
+        (plan_quotient w (own_of run) a (top (register (own_of run) x) (register (own_of run) y)) (by (register (own_of run) x) (register (own_of run) y))))
+      where
+        quotient_begins :
+            (run : Parts) → (record_of run n).registers ≡ rs → SoundRun (it run) → (w : ℕ)
+            → settled (it run) n w i ≡ settle (model (it run)) n (plan_quotient w (own_of run) a (top l r) (by l r))
+        quotient_begins run e s w =
+            begins run w
+            ∙ ap (λ z. settle (model (it run)) n (plan_quotient w (own_of run) a z (by (register (own_of run) x) (register (own_of run) y)))) (both top run e s)
+            ∙ ap (λ z. settle (model (it run)) n (plan_quotient w (own_of run) a (top l r) z)) (both by run e s)
+
+        quotient_faults : (k : Fault) → QuotientIs (top l r) (by l r) (Err k) → PlansIn order modes memory rs n place i (Err (Stops.Fault k))
+        unfolding plan_quotient planned
+        quotient_faults k h =
+            λ run m e s o w. quotient_begins run e s w ∙ settle_fault (model (it run)) n w (own_of run) _ _ (fault_number k) h (some_fault k)
+
+        quotient_assigns : (v : ℕ) → QuotientIs (top l r) (by l r) (Ok v) → PlansIn order modes memory rs n place i (Ok (Planned.Assign a v))
+        unfolding plan_quotient planned settle admit every
+        quotient_assigns v h =
+            λ run m e s o w.
+            quotient_begins run e s w ∙ settle_none (model (it run)) n w (own_of run) _ _ h.0
+            ∙ ap (λ z. accept (own w (assigned a z (own_of run)))) h.1
+
+    pub mul_faults : (k : Fault) → QuotientIs (l * r) 1000 (Err k) → PlansIn order modes memory rs n place (Mul a x y) (Err (Stops.Fault k))
     unfolding settled plan_instruction
-    mul_free is =
-        λ run n w h.
-        let t = task_of (model run) n in
-        ap (λ z. settle (model run) n (plan_quotient w t a z 1000)) (both (λ i j. i * j) x y l r (l * r) t h p q refl)
-        ∙ quotient_planned run n w a (l * r) 1000 found is
+    mul_faults = quotient_faults (Mul a x y) (λ i j. i * j) (λ i j. 1000) (λ run w. refl)
 
-    pub div_free : QuotientIs (1000 * l) r found → PlansFree rs (Div a x y) (quotient_plan a found)
+    pub mul_plans : (v : ℕ) → QuotientIs (l * r) 1000 (Ok v) → PlansIn order modes memory rs n place (Mul a x y) (Ok (Planned.Assign a v))
     unfolding settled plan_instruction
-    div_free is =
-        λ run n w h.
-        let t = task_of (model run) n in
-        ap (λ z. settle (model run) n (plan_quotient w t a z (register t y))) (both (λ i j. 1000 * i) x y l r (1000 * l) t h p q refl)
-        ∙ ap (λ z. settle (model run) n (plan_quotient w t a (1000 * l) z)) (both (λ i j. j) x y l r r t h p q refl)
-        ∙ quotient_planned run n w a (1000 * l) r found is
+    mul_plans = quotient_assigns (Mul a x y) (λ i j. i * j) (λ i j. 1000) (λ run w. refl)
 
-  pub skip_free : (a b l u : ℕ) → l ≡ get_or rs a 0 → u ≡ passed_over l b → PlansFree rs (Skip a b) (Planned.Pass u)
+    pub div_faults : (k : Fault) → QuotientIs (1000 * l) r (Err k) → PlansIn order modes memory rs n place (Div a x y) (Err (Stops.Fault k))
+    unfolding settled plan_instruction
+    div_faults = quotient_faults (Div a x y) (λ i j. 1000 * i) (λ i j. j) (λ run w. refl)
+
+    pub div_plans : (v : ℕ) → QuotientIs (1000 * l) r (Ok v) → PlansIn order modes memory rs n place (Div a x y) (Ok (Planned.Assign a v))
+    unfolding settled plan_instruction
+    div_plans = quotient_assigns (Div a x y) (λ i j. 1000 * i) (λ i j. j) (λ run w. refl)
+
+  pub skip_plans :
+      (a b l u : ℕ) → l ≡ get_or rs a 0 → u ≡ passed_over l b → PlansIn order modes memory rs n place (Skip a b) (Ok (Planned.Pass u))
   unfolding settled plan_instruction settle admit every planned
-  skip_free a b l u p e =
-      λ run n w h.
-      let t = task_of (model run) n in
-      ap (λ z. planned run n w (Planned.Pass z)) (ap (λ z. passed_over (get_or z a 0) b) h ∙ ap (λ z. passed_over z b) (sym p) ∙ sym e)
+  skip_plans a b l u p is =
+      λ run m e s o w.
+      ap (λ z. accept (own w (moved (1 + z) (own_of run).registers (own_of run))))
+      (ap (λ z. passed_over z b) (named run e s a l p) ∙ sym is)
 
-  pub spawn_free : (a f v : ℕ) → v ≡ get_or rs 0 0 → PlansFree rs (Spawn a f) (Planned.Make a f v 1)
+  pub spawn_plans : (a f v : ℕ) → v ≡ get_or rs 0 0 → PlansIn order modes memory rs n place (Spawn a f) (Ok (Planned.Make a f v 1))
   unfolding settled plan_instruction planned
-  spawn_free a f v q =
-      λ run n w h.
-      let t = task_of (model run) n in
-      ap (λ ts. settle (model run) n (plan_make (context_of run) w n t a (children a (footprint_of (list_of run.tables) f) ts)))
-      (sym (seen_alone t) ∙ ap (λ u. seen_from 0 1 (first_register u t)) (ap (λ z. get_or z 0 0) h ∙ sym q))
+  spawn_plans a f v q =
+      λ run m e s o w.
+      ap (λ ts. settle (model (it run)) n (plan_make (context_of (it run)) w n (own_of run) a (children a (footprint_of (list_of run.tables) f) ts)))
+      (sym (seen_alone (own_of run)) ∙ ap (λ u. seen_from 0 1 (first_register u (own_of run))) (named run e s 0 v q))
 
-  pub fan_free : (a f k : ℕ) → PlansFree rs (Fan a f k) (Planned.Make a f 0 k)
+  pub fan_plans : (a f k : ℕ) → PlansIn order modes memory rs n place (Fan a f k) (Ok (Planned.Make a f 0 k))
   unfolding settled plan_instruction planned
-  fan_free a f k =
-      λ run n w h.
-      let t = task_of (model run) n in
-      ap (λ ts. settle (model run) n (plan_make (context_of run) w n t a (children a (footprint_of (list_of run.tables) f) ts)))
-      (sym (seen_fan 0 k t))
-
--- by the code
-pub free_code :
-    (rs : List ℕ) (i : Instruction) (p : StepPlan) (code : ℕ) → code ≡ get_or (instruction_fields i) 0 0 → code ≢ 4 → code ≢ 5
-    → code ≢ 8 → code ≢ 10 → FreeAs rs i p → PlansFree rs i p
-unfolding instruction_fields
-free_code rs (Const a v) p code q f g h o r = r
-free_code rs (Add a x y) p code q f g h o r = r
-free_code rs (Sub a x y) p code q f g h o r = r
-free_code rs (Less a x y) p code q f g h o r = r
-free_code rs (Load a x) p code q f g h o r = absurd (f q)
-free_code rs (Store a x) p code q f g h o r = absurd (g q)
-free_code rs (Skip a b) p code q f g h o r = r
-free_code rs (Spawn s x) p code q f g h o r = r
-free_code rs (Wait a) p code q f g h o r = absurd (h q)
-free_code rs (Fan s x k) p code q f g h o r = r
-free_code rs (Sum a x) p code q f g h o r = absurd (o q)
-free_code rs (Mul a x y) p code q f g h o r = r
-free_code rs (Div a x y) p code q f g h o r = r
-
-pub free_plans :
-    (run : Parts) (n place : ℕ) (i : Instruction) (p : StepPlan) → n < 128 → PlansFree (record_of run n).registers i p
-    → Plans run n place i p
-free_plans run n place i p below h = λ s q w. h run n w (ap (λ t. t.registers) (own_task run s n below))
-
-pub waiting_code :
-    (run : Parts) (n place : ℕ) (i : Instruction) (p : StepPlan) (code : ℕ) → code ≡ get_or (instruction_fields i) 0 0 → 4 ≤ code
-    → code ≢ 6 → code ≢ 7 → code ≢ 9 → code ≢ 11 → code ≢ 12 → WaitAs run n place i p → Plans run n place i p
-unfolding instruction_fields
-waiting_code run n place (Const a v) p code q f g h o m d r = let z : ⊥ = omega arith in absurd z
-waiting_code run n place (Add a x y) p code q f g h o m d r = let z : ⊥ = omega arith in absurd z
-waiting_code run n place (Sub a x y) p code q f g h o m d r = let z : ⊥ = omega arith in absurd z
-waiting_code run n place (Less a x y) p code q f g h o m d r = let z : ⊥ = omega arith in absurd z
-waiting_code run n place (Load a x) p code q f g h o m d r = r
-waiting_code run n place (Store a x) p code q f g h o m d r = r
-waiting_code run n place (Skip a b) p code q f g h o m d r = absurd (g q)
-waiting_code run n place (Spawn s x) p code q f g h o m d r = absurd (h q)
-waiting_code run n place (Wait a) p code q f g h o m d r = r
-waiting_code run n place (Fan s x k) p code q f g h o m d r = absurd (o q)
-waiting_code run n place (Sum a x) p code q f g h o m d r = r
-waiting_code run n place (Mul a x y) p code q f g h o m d r = absurd (m q)
-waiting_code run n place (Div a x y) p code q f g h o m d r = absurd (d q)
+  fan_plans a f k =
+      λ run m e s o w.
+      ap (λ ts. settle (model (it run)) n (plan_make (context_of (it run)) w n (own_of run) a (children a (footprint_of (list_of run.tables) f) ts)))
+      (sym (seen_fan 0 k (own_of run)))
 
 -- What is decided of a step.
 module _ (run : Parts) (n : ℕ) (below : n < 128) (s : SoundRun run) (place : ℕ) (p : Placed run n place) where
@@ -424,7 +404,7 @@ module _ (run : Parts) (n : ℕ) (below : n < 128) (s : SoundRun run) (place : �
     pub step_settled :
         b ≡ false → (i : Instruction) (code count : ℕ)
         → i ≡ instruction_of (list_of run.tables) (record_of run n).body (record_of run n).pc
-        → code ≡ get_or (instruction_fields i) 0 0 → count ≡ units i → (x : StepPlan) → Plans run n place i x
+        → code ≡ get_or (instruction_fields i) 0 0 → count ≡ units i → (x : Result StepPlan Stop) → Plans run n place i x
         → decided run step n ≡ planned run n (count * weight_of (context_of run) (code + 2)) x
     unfolding step_weight
     step_settled q i code count e f u x h =

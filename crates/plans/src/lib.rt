@@ -1,27 +1,38 @@
 // What an instruction of a task comes to, by the order, the modes, the memory and the task's registers, which are lent.
 #![tactic(auto)]
 
-use semantics::CallRefusal;
+ghost use Rattle.std.specs.Prelude.{◌≡◌};
+ghost use Rattle.plans.specs.declared.Stop.TheVariants as Stops;
 
-// What an access of a task comes to: faults come before waiting.
-#[derive(Clone, Copy)]
-pub enum Access {
-    Fault { fault: u8 },
-    // Held back: 19, 20.
-    Held { refusal: CallRefusal },
-    Free,
+use semantics::{CallRefusal, Fault};
+
+// Why an instruction is no step on; faults come before waiting.
+#[derive(Clone, Copy, Debug, PartialEq, Eq)]
+pub enum Stop {
+    Fault(Fault),
+    // The task is held back: 19, 20.
+    Held(CallRefusal),
+}
+
+impl From<Fault> for Stop {
+    ghost from_gives = { λ fault stop. stop ≡ Stops.Fault fault };
+
+    fn from(fault: Fault) -> Stop {
+        Stop::Fault(fault)
+    }
+}
+
+impl From<CallRefusal> for Stop {
+    ghost from_gives = { λ refusal stop. stop ≡ Stops.Held refusal };
+
+    fn from(refusal: CallRefusal) -> Stop {
+        Stop::Held(refusal)
+    }
 }
 
 // What an instruction comes to, by the task's own record and a look at the tasks ahead.
-#[derive(Clone, Copy)]
+#[derive(Clone, Copy, Debug, PartialEq, Eq)]
 pub enum StepPlan {
-    // The task is held back: 19, 20.
-    Held {
-        refusal: CallRefusal,
-    },
-    Fault {
-        fault: u8,
-    },
     // One step on, with a value in a register.
     Assign {
         target: u8,
@@ -51,5 +62,7 @@ pub enum StepPlan {
 }
 
 mod parts;
+mod standing;
 
 pub use parts::plan_of;
+pub use standing::Standing;

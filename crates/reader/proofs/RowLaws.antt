@@ -5,16 +5,11 @@ use mathlib.Core.List.{List, [], ◌∷◌, ◌++◌, map}
 use native.Mathlib.Omega.{arith}
 use native.Mathlib.Numerals.{add-one}
 use native.Mathlib.Nat.{mul-suc, mul-zero}
-use lib.ListN.{length, take, drop, set, length-drop, length-map}
-use lib.Seq.{take-set-le, drop-set-add, drop-drop, take-suc-set, length-take-le}
+use lib.ListN.{length, replicate, length-replicate, take, drop, set, length-drop, length-map}
+use Rattle.std.proofs.lemmas.List.{map-set, take-append-le}
+use lib.Seq.{take-length, take-set-le, drop-set-add, drop-drop, take-suc-set, length-take-le}
 use Rattle.tasklist.specs.Fields.{Taken, bad, took, and_then, counted, many, row}
 use Rattle.tasklist.specs.Tables.{rows}
-
-pub map_set : {A B : Type 0} (f : A → B) (l : List A) (i : ℕ) (a : A) → map f (set l i a) ≡ set (map f l) i (f a)
-map_set f [] zero a = refl
-map_set f [] (suc i) a = refl
-map_set f (x ∷ l) zero a = refl
-map_set f (x ∷ l) (suc i) a = ap (λ m. f x ∷ m) (map_set f l i a)
 
 -- a store behind the rows leaves them
 pub rows_set : {A : Type 0} (w : ℕ) (ns : List ℕ) (xs : List A) (k : ℕ) (x : A) → w * length ns ≤ k → rows w ns (set xs k x) ≡ rows w ns xs
@@ -46,6 +41,25 @@ pub row_set : {A : Type 0} (m i : ℕ) (xs : List A) (x : A) → m + i < length 
     → take (suc i) (drop m (set xs (m + i) x)) ≡ take i (drop m xs) ++ (x ∷ [])
 row_set m i xs x h = rw (drop-set-add m xs i x) (take-suc-set (drop m xs) i x (omega (arith, length-drop m xs)))
 
+-- rows are read into the first n of m sizes, all 0 before: how many there are, and the rows of those alone
+sizes_used : (n m : ℕ) → n ≤ m → length (take n (replicate {A = ℕ} m 0)) ≡ n
+sizes_used n m h = length-take-le n (replicate m 0) (omega (arith, length-replicate {A = ℕ}))
+
+module _ {A : Type 0} (item : ℕ → List ℕ → Taken (List A)) (b : List ℕ) (n m : ℕ) (few : n ≤ m) where
+  abbrev used : ℕ
+  used = length (take n (replicate {A = ℕ} m 0))
+
+  pub used_bad : (k : ℕ) → bad k ≡ many item 0 used [] b → bad k ≡ many item 0 n [] b
+  used_bad k e = e ∙ ap (λ (i : ℕ). many item 0 i [] b) (sizes_used n m few)
+
+  pub used_took : (w : ℕ) (sizes behind : List ℕ) (xs : List A) (rest : List ℕ) → length sizes ≡ used
+      → took (rows w sizes xs) rest ≡ many item 0 used [] b → took (rows w (take n (sizes ++ behind)) xs) rest ≡ many item 0 n [] b
+  used_took w sizes behind xs rest l e =
+      let many_there : length sizes ≡ n = l ∙ sizes_used n m few in
+      let all : take n sizes ≡ sizes = ap (λ (i : ℕ). take i sizes) (sym many_there) ∙ take-length sizes in
+      ap (λ (ns : List ℕ). took (rows w ns xs) rest) (take-append-le n sizes behind (omega arith) ∙ all) ∙
+      e ∙ ap (λ (i : ℕ). many item 0 i [] b) (sizes_used n m few)
+
 many_more : {A : Type 0} (item : ℕ → List ℕ → Taken A) (i n : ℕ) (done : List A) (b : List ℕ) → 0 < n
     → many item i n done b ≡ and_then (item i b) (λ a rest. many item (suc i) (n - 1) (done ++ (a ∷ [])) rest)
 unfolding many
@@ -64,9 +78,12 @@ and_then_assoc (bad k) f g = refl
 and_then_assoc (took a rest) f g = refl
 
 -- item s n i takes item i of record s, which has n of them
-module _ {A : Type 0} (second w k : ℕ) (item : ℕ → ℕ → ℕ → List ℕ → Taken A) (all : Taken (List (List A))) (N : ℕ) where
+module _ {A : Type 0} (second w k : ℕ) (item : ℕ → ℕ → ℕ → List ℕ → Taken A) (N : ℕ) (start : List ℕ) where
   abbrev pub row_at : ℕ → List ℕ → Taken (List A)
   row_at s = row second w k (item s)
+
+  abbrev all : Taken (List (List A))
+  all = many row_at 0 N [] start
 
   -- s records are in the tables, the others are still to be taken
   abbrev pub Behind : ℕ → List ℕ → List A → List ℕ → Type 0
@@ -128,7 +145,7 @@ module _ {A : Type 0} (second w k : ℕ) (item : ℕ → ℕ → ℕ → List �
       → i < n → s ≤ length sizes → w * s + i < length ys → Within s n i sizes (map f ys) b
       → item s n i b ≡ took (f y) rest → Within s n (i + 1) sizes (map f (set ys (w * s + i) y)) rest
   item_kept f s n i sizes ys b y rest h l g e c =
-      subst (λ (xs : List A). Within s n (i + 1) sizes xs rest) (sym (map_set f ys (w * s + i) y))
+      subst (λ (xs : List A). Within s n (i + 1) sizes xs rest) (sym (map-set f ys (w * s + i) y))
       (item_took s n i sizes (map f ys) b (f y) rest h l (omega (arith, length-map ys f)) e c)
 
   pub row_closes : (s n i : ℕ) (sizes : List ℕ) (xs : List A) (b : List ℕ)
@@ -140,14 +157,15 @@ module _ {A : Type 0} (second w k : ℕ) (item : ℕ → ℕ → ℕ → List �
       (rw (add-one s, take-suc-set sizes s n f, rows_snoc w (take s sizes) n xs, length-take-le s sizes (omega arith))
       (ap (λ (m : ℕ). many row_at (suc s) (N - suc s) (rows w (take s sizes) xs ++ (take m (drop (w * s) xs) ∷ [])) b) q))
 
-  pub rows_close : (s : ℕ) (sizes : List ℕ) (xs : List A) (b : List ℕ) → s ≡ N → Behind s sizes xs b
-      → all ≡ took (rows w (take N sizes) xs) b
-  rows_close s sizes xs b h e =
-      e ∙ many_none row_at s (N - s) (rows w (take s sizes) xs) b (omega arith) ∙
-      ap (λ (m : ℕ). took (rows w (take m sizes) xs) b) h
+  pub rows_close : (s : ℕ) (sizes : List ℕ) (xs : List A) (b : List ℕ) → s ≡ N → length sizes ≡ N → Behind s sizes xs b
+      → took (rows w sizes xs) b ≡ all
+  rows_close s sizes xs b h l e =
+      let whole : take s sizes ≡ sizes = ap (λ (n : ℕ). take n sizes) (h ∙ sym l) ∙ take-length sizes in
+      ap (λ (ns : List ℕ). took (rows w ns xs) b) (sym whole) ∙
+      sym (e ∙ many_none row_at s (N - s) (rows w (take s sizes) xs) b (omega arith))
 
-  pub rows_open : (sizes : List ℕ) (xs : List A) (b : List ℕ) → all ≡ many row_at 0 N [] b → Behind 0 sizes xs b
+  pub rows_open : (sizes : List ℕ) (xs : List A) → Behind 0 sizes xs start
   unfolding rows
-  rows_open sizes xs b e =
+  rows_open sizes xs =
       let q : N ≡ N - 0 = omega arith in
-      e ∙ ap (λ (m : ℕ). many row_at 0 m [] b) q
+      ap (λ (m : ℕ). many row_at 0 m [] start) q

@@ -1,19 +1,19 @@
--- What the reader's parts give, as document 01's head, footprints and bodies.
-use Rattle.std.specs.Prelude.{ℕ, List, drop, take}
+-- What the reader's parts give, as document 01's footprints and bodies.
+use Rattle.std.specs.Prelude.{ℕ, List, take, Result, Ok, Err}
+use Rattle.std.specs.Borrow.{Bor}
+use Rattle.tasklist.specs.declared.Refusal.{Refusal}
 use Rattle.tasklist.specs.declared.Instruction.{Instruction}
 use Rattle.tasklist.specs.declared.Line.{Line}
-use Rattle.tasklist.specs.declared.Header.{Header}
 use Rattle.tasklist.specs.Tables.{rows, instructions}
 use Rattle.tasklist.specs.Fields.{Taken, bad, took}
 use Rattle.tasklist.specs.Answers.{refusal_number}
-use Rattle.reader.specs.declared.HeadTaken.{HeadTaken}
-use Rattle.reader.specs.declared.HeadTaken.TheVariants as head
-use Rattle.reader.specs.declared.Footprints.{Footprints}
-use Rattle.reader.specs.declared.Bodies.{Bodies}
+use Rattle.reader.specs.declared.reader.Footprints.{Footprints}
+use Rattle.reader.specs.declared.reader.Bodies.{Bodies}
 
-abbrev pub head_taken : HeadTaken → List ℕ → Taken Header
-head_taken (head.Bad k) b = bad (refusal_number k)
-head_taken (head.Took h p) b = took h (drop p b)
+-- the records of a table, and the bytes behind them
+abbrev pub rows_taken : {A : Type 0} → List (List A) → Result (Bor (List ℕ)) Refusal → Taken (List (List A))
+rows_taken rs (Ok rest) = took rs rest.now
+rows_taken rs (Err k) = bad (refusal_number k)
 
 -- n footprints in their tables
 abbrev pub footprint_rows : ℕ → Footprints → List (List Line)

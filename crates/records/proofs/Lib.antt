@@ -1,3 +1,3 @@
--- Laws of the definitions, for this crate's proofs and for the layer above.
+-- Laws of the definitions, for this crate's proofs.
 pub mod ValueLaws
-mod QuotientLaws
+pub mod QuotientLaws

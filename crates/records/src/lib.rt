@@ -2,14 +2,6 @@
 // equation. Nothing here knows of a run.
 #![tactic(auto)]
 
-// What a quotient comes to.
-#[derive(Clone, Copy)]
-pub enum Quotient {
-    // 4 the result is above 2^32 - 1, 5 the divisor is 0.
-    Fault { fault: u8 },
-    Value { value: u32 },
-}
-
 mod codes;
 mod quotients;
 mod record;

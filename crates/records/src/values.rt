@@ -8,24 +8,25 @@ ghost use Rattle.semantics.specs.Call.{edited};
 pub fn constant(value: u16) -> u32
     ensures { result ≡ value % 2 ^ 32 }
 {
-    value as u32
+    u32::from(value)
 }
 
 // "sums and differences are modulo 2^32"
 pub fn difference(left: u32, right: u32) -> u32
     ensures { result ≡ (left + 2 ^ 32 - right) % 2 ^ 32 }
 {
-    std::num::wrapping_sub_u32(left, right)
+    left.wrapping_sub(right)
 }
 
 // "1 if Rb < Rc, else 0"
 pub fn less(left: u32, right: u32) -> u32
     ensures { result ≡ (if nat_lt left right then 1 else 0) }
 {
-    if left < right { 1 } else { 0 }
+    u32::from(left < right)
 }
 
 // "if Ra is 0, pass over the next b instructions"
+#[tactic(auto, using(crate::proofs::ValueLaws::tested))]
 pub fn passed_over(test: u32, length: u8) -> u8
     ensures { result ≡ passed_over test length }
 {
@@ -36,30 +37,25 @@ pub fn passed_over(test: u32, length: u8) -> u8
 pub fn value_at(memory: [u32; 64], location: usize) -> u32
     ensures { result ≡ slice_index memory location }
 {
-    if 63 < location {
-        return 0;
-    }
-    memory[location]
+    memory.get(location).copied().unwrap_or(0)
 }
 
 // Puts a number at a location; leaves the memory where there is no such location.
 pub fn store(memory: &mut [u32; 64], location: usize, value: u32)
     ensures { length memory.old ≡ 64 → memory.new ≡ slice_set memory.old location value }
 {
-    if 63 < location {
-        return;
+    if location < memory.len() {
+        memory[location] = value;
     }
-    memory[location] = value;
 }
 
 // Request 107: "entry number Ra := entry + Rb modulo 2^32". Adds a number to that at a location; leaves the memory where there is
 // no such location.
+#[tactic(auto, unfolding(semantics::specs::Call::edited))]
 pub fn sum(memory: &mut [u32; 64], location: usize, value: u32)
     ensures { length memory.old ≡ 64 → memory.new ≡ edited (add location value) memory.old }
 {
-    if 63 < location {
-        return;
+    if location < memory.len() {
+        memory[location] = memory[location].wrapping_add(value);
     }
-    let entry = memory[location];
-    memory[location] = std::num::wrapping_add_u32(entry, value);
 }

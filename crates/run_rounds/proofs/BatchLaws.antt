@@ -20,8 +20,10 @@ use Rattle.plans.proofs.DecideLaws.{list_accepted}
 use Rattle.runtime.specs.declared.Run.{Run}
 use Rattle.runtime.specs.View.{parts_of, model, context_of, SoundRun}
 use Rattle.runtime.specs.Calls.{calls_of_kind}
+use Rattle.turns.specs.declared.Kind.{Kind}
+use Rattle.turns.specs.Moves.{kind_number}
 use Rattle.sequence.specs.Replays.{calls_of}
-use Rattle.run_rounds.specs.declared.Seen.TheVariants.{Ready}
+use Rattle.std.specs.Prelude.{Some}
 use Rattle.run_rounds.specs.Looking.{SeenAs, BatchOf}
 
 -- one call more behind as many kinds as tasks
@@ -111,15 +113,12 @@ module _ (run : Run) (workers : ℕ) where
       pub found_enough : workers ≤ count → BatchOf run workers (record { count = count; kinds = kinds; tasks = tasks })
       found_enough h = batch (λ s. let z : workers - count ≡ 0 = omega arith in ap (λ k. to_come k i) z)
 
-      module _ (inside : i < run.left) where
-        abbrev task : ℕ
-        task = get_or run.order i 0
-
+      module _ (inside : i < run.left) (task : ℕ) (here : task ≡ get_or run.order i 0) where
         next_behind : SoundRun run → behind i ≡ task ∷ behind (suc i)
         unfolding Of.model
         next_behind s =
             drop-cons (take run.left run.order) i 0 (omega (arith, length-take run.left run.order, s.order, s.left))
-            ∙ ap (λ n. n ∷ drop (suc i) (take run.left run.order)) (get_or-take run.left run.order i 0 (omega arith))
+            ∙ ap (λ n. n ∷ drop (suc i) (take run.left run.order)) (get_or-take run.left run.order i 0 (omega arith) ∙ sym here)
 
         -- every task in the order has a record
         pub task_below : SoundRun run → task < 128
@@ -154,10 +153,10 @@ module _ (run : Run) (workers : ℕ) where
 
         -- it would be accepted: it is stored
         pub found_ready :
-            (kind : ℕ) → SeenAs (parts_of run) task (Ready kind) → i < 128 → count < workers
+            (found : Kind) (kind : ℕ) → kind ≡ kind_number found → SeenAs (parts_of run) task (Some found) → i < 128 → count < workers
             → Found (set kinds count kind) (set tasks count task) (count + 1) (i + 1)
         unfolding only
-        found_ready kind h below spare =
+        found_ready found kind q h below spare =
             record {
               few = omega (arith, f.few);
               within = omega arith;
@@ -191,7 +190,7 @@ module _ (run : Run) (workers : ℕ) where
                 → calls_of (take (suc count) (set kinds count kind)) (take (suc count) (set tasks count task)) ≡ held ++ (next s ∷ [])
             stored s =
                 calls_stored kinds tasks count kind task (omega (arith, whole, f.few)) (omega (arith, alike, f.few))
-                ∙ ap (λ bs. held ++ bs) (h s).0
+                ∙ ap (λ bs. held ++ bs) (ap (λ k. calls_of_kind k task) q ∙ (h s).0)
 
             first : (s : SoundRun run) → to_come (workers - count) i ≡ next s ∷ to_come (workers - suc count) (suc i)
             first s =

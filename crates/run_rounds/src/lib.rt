@@ -2,7 +2,11 @@
 // only; what a round is, says the crate `model_rounds`.
 #![tactic(auto)]
 
-use runtime::OpenAnswer;
+ghost use Rattle.std.specs.Prelude.{◌≡◌};
+ghost use Rattle.run_rounds.specs.declared.RoundsRefusal.TheVariants.{Unopened};
+ghost use Rattle.run_rounds.specs.Reports.{rounds_number};
+
+use runtime::OpenRefusal;
 
 // "P workers, 1 to 16"
 pub const MOST_WORKERS: u32 = 16;
@@ -13,46 +17,52 @@ pub const ALL_WORKERS: usize = 128;
 // No publication takes more rounds: 34 calls for each of 128 tasks.
 pub const MOST_ROUNDS: u32 = 4352;
 
-// What is answered to whom asks for the rounds.
-#[derive(Clone, Copy)]
-pub enum RoundsAnswer {
-    // They are counted.
-    Counted,
+// Why the rounds are not counted.
+#[derive(Clone, Copy, Debug, PartialEq, Eq)]
+pub enum RoundsRefusal {
     // 24: the workers are not 1 to 16.
     Workers,
     // Open refuses the list, the memory or the weights.
-    Unopened { answer: OpenAnswer },
+    Unopened(OpenRefusal),
 }
 
-// The report: the rounds with the workers asked for, the calls in them, and the span, which is the rounds with 128 workers. Zeros
-// where they are not counted.
+impl From<OpenRefusal> for RoundsRefusal {
+    ghost from_gives = { λ k e. e ≡ Unopened k };
+
+    fn from(refusal: OpenRefusal) -> RoundsRefusal {
+        RoundsRefusal::Unopened(refusal)
+    }
+}
+
+// Document 02's number of the refusal.
+impl From<RoundsRefusal> for u8 {
+    ghost from_gives = { λ k n. n ≡ rounds_number k };
+
+    fn from(refusal: RoundsRefusal) -> u8 {
+        match refusal {
+            RoundsRefusal::Workers => 24,
+            RoundsRefusal::Unopened(k) => u8::from(k),
+        }
+    }
+}
+
+// The report: the rounds with the workers asked for, the calls in them, and the span, which is the rounds with 128 workers.
 #[derive(Clone, Copy)]
 pub struct Rounded {
-    pub answer: RoundsAnswer,
     pub rounds: u32,
     pub calls: u32,
     pub span: u32,
 }
 
-// The reports with 1 to 16 workers, that with P at place P - 1. Zeros where open refuses.
+// The span, and the rounds and calls with 1 to 16 workers, those with P at place P - 1.
 #[derive(Clone, Copy)]
 pub struct RoundsTable {
-    pub answer: OpenAnswer,
     pub span: u32,
-    pub rounds: [u32; REPORTS],
-    pub calls: [u32; REPORTS],
-}
-
-// What a look at a task's next call finds.
-#[derive(Clone, Copy)]
-pub enum Seen {
-    // It would be refused.
-    Held,
-    // It would be accepted: 0 start, 1 step, 2 end.
-    Ready { kind: u8 },
+    pub reports: [Tally; REPORTS],
 }
 
 // The calls of a round: the first `count` kinds, each of the task beside it.
+// Kept: kinds and tasks in two arrays, since `sequence::all_called` takes two slices, and any byte as a kind.
 #[derive(Clone, Copy)]
 pub struct Batch {
     pub count: usize,

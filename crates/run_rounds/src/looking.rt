@@ -1,65 +1,33 @@
 // The calls of a round: the first tasks in the order whose next call would be accepted, found by looks that change nothing.
 ghost use Rattle.std.specs.Prelude.{◌+◌, ◌*◌, ◌<◌, ◌≡◌};
-ghost use Rattle.run_rounds.specs.Looking.{seen_by, SeenIn, BatchOf};
+ghost use Rattle.runtime.specs.View.{parts_of};
+ghost use Rattle.run_rounds.specs.Looking.{seen_by, waits, SeenAs, BatchOf};
 
-use crate::{ALL_WORKERS, Batch, Seen};
-use looks::{Located, end_look, start_look, step_look};
-use plans::{StepPlan, plan_of};
-use records::code_of;
+use crate::{ALL_WORKERS, Batch};
+use looks::{end_look, start_look, step_look};
+use plans::{Standing, StepPlan, Stop, plan_of};
 use runtime::Run;
-use semantics::Record;
-use tasklist::Instruction;
+use semantics::CallRefusal;
+use turns::{Kind, next_kind};
 
 // What a look at a call of this kind comes to.
-fn seen_by(kind: u8, found: Located) -> Seen
+fn seen_by(kind: Kind, found: Result<usize, CallRefusal>) -> Option<Kind>
     ensures { result ≡ seen_by kind found }
 {
     match found {
-        Located::Refused { refusal: _ } => Seen::Held,
-        Located::At { place: _ } => Seen::Ready { kind },
+        Ok(_) => Some(kind),
+        Err(_) => None,
     }
 }
 
-// What comes of a task's next call, by its kind: a start and a step by a look at the tasks ahead, an end never waits.
-fn next_seen<'a>(
-    order: &'a [u8; 128],
-    modes: &'a [u8; 8192],
-    memory: [u32; 64],
-    left: usize,
-    own: Record,
-    size: usize,
-    instruction: Instruction,
-    task: u32,
-) -> Seen
-    ensures { SeenIn order.now modes.now memory left own size instruction task result }
+// Whether a step is held back by the tasks ahead.
+fn waits(plan: Result<StepPlan, Stop>) -> bool
+    ensures { result ≡ waits plan }
 {
-    let kind = turns::next_kind(own, size);
-    if kind == 0 {
-        return seen_by(kind, start_look(order, modes, left, own, task));
-    }
-    if kind == 2 {
-        return seen_by(kind, end_look(order, left, own, size, task));
-    }
-    let found = step_look(order, left, own, size, task);
-    match found {
-        Located::Refused { refusal: _ } => Seen::Held,
-        Located::At { place } => {
-            let registers = own.registers;
-            let plan = plan_of(
-                order,
-                modes,
-                memory,
-                registers,
-                task as usize,
-                place,
-                code_of(instruction),
-                instruction,
-            );
-            match plan {
-                StepPlan::Held { refusal: _ } => Seen::Held,
-                _ => Seen::Ready { kind },
-            }
-        }
+    match plan {
+        Err(Stop::Held(_)) => true,
+        Err(Stop::Fault(_)) => false,
+        Ok(_) => false,
     }
 }
 
@@ -67,78 +35,70 @@ fn next_seen<'a>(
 fn cell_of(body: usize, place: usize) -> usize
     ensures { (result < 1024) × (body < 32 → place < 32 → result ≡ 32 * body + place) }
 {
-    if body < 32 {
-        if place < 32 {
-            return 32 * body + place;
+    if body < 32 && place < 32 {
+        32 * body + place
+    } else {
+        0
+    }
+}
+
+// The kind of the next call of task `n`, where it would be accepted: a start and a step look at the tasks ahead, an end never waits.
+fn next_seen(run: &Run, n: usize) -> Option<Kind>
+    requires { n < 128 }
+    ensures { SeenAs (parts_of run.now) n result }
+{
+    let task = n as u32;
+    let own = run.records[n];
+    let body = usize::from(own.body);
+    let size = listing::row_size(run.tables.bodies, &run.tables.sizes, 32, body);
+    let kind = next_kind(own, size);
+    match kind {
+        Kind::Start => {
+            let found = start_look(&run.order, &run.modes, run.left, own, task);
+            seen_by(kind, found)
+        }
+        Kind::End => seen_by(kind, end_look(&run.order, run.left, own, size, task)),
+        Kind::Step => {
+            let Ok(place) = step_look(&run.order, run.left, own, size, task) else {
+                return None;
+            };
+            let standing = Standing {
+                order: &run.order,
+                modes: &run.modes,
+                task: n,
+                place,
+            };
+            let cell = run.tables.cells[cell_of(body, own.pc as usize)];
+            let plan = plan_of(&standing, &run.memory, own.registers, cell.instruction);
+            if waits(plan) { None } else { Some(kind) }
         }
     }
-    0
 }
 
 // The calls of a round with so many workers.
 pub fn round_calls(run: Run, workers: usize) -> Batch
     ensures { BatchOf run workers result }
 {
-    let tables = run.tables;
-    let memory = run.memory;
-    let mut kinds = [0u8; ALL_WORKERS];
-    let mut tasks = [0u32; ALL_WORKERS];
-    let mut count = 0;
-    let mut i = 0;
-    while i < 128 {
-        if run.left <= i {
-            return Batch {
-                count,
-                kinds,
-                tasks,
-            };
+    let mut batch = Batch {
+        count: 0,
+        kinds: [0; ALL_WORKERS],
+        tasks: [0; ALL_WORKERS],
+    };
+    for task in &run.order[..run.left.min(128)] {
+        if workers <= batch.count {
+            break;
         }
-        if workers <= count {
-            return Batch {
-                count,
-                kinds,
-                tasks,
-            };
-        }
-        let task = run.order[i];
+        let n = usize::from(*task);
         // no record: no call
-        if 127 < task {
-            i += 1;
+        if 127 < n {
             continue;
         }
-        let own = run.records[task as usize];
-        let body = own.body as usize;
-        let size = listing::row_size(tables.bodies, &tables.sizes, 32, body);
-        let at = cell_of(body, own.pc as usize);
-        let cell = tables.cells[at];
-        let instruction = cell.instruction;
-        let next = next_seen(
-            &run.order,
-            &run.modes,
-            memory,
-            run.left,
-            own,
-            size,
-            instruction,
-            task as u32,
-        );
-        match next {
-            Seen::Held => {
-                i += 1;
-                continue;
-            }
-            Seen::Ready { kind } => {
-                kinds[count] = kind;
-                tasks[count] = task as u32;
-                count += 1;
-                i += 1;
-                continue;
-            }
-        }
+        let Some(kind) = next_seen(&run, n) else {
+            continue;
+        };
+        batch.kinds[batch.count] = u8::from(kind);
+        batch.tasks[batch.count] = u32::from(*task);
+        batch.count += 1;
     }
-    Batch {
-        count,
-        kinds,
-        tasks,
-    }
+    batch
 }

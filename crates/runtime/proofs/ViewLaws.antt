@@ -23,3 +23,18 @@ pub mode_is :
     (run : Run) (n a : ℕ) → length run.records ≡ 128 → length run.modes ≡ 8192
     → get_or (row n run.modes) a 0 ≡ mode_of (task_of (model run) n) a
 mode_is run n a r m = Of.mode_is (parts_of run) n a r m
+
+-- two runs of the same parts are one
+pub same_run : (a b : Run) → parts_of a ≡ parts_of b → a ≡ b
+same_run a b q =
+    λ i. record {
+      tables = (q i).tables;
+      memory = (q i).memory;
+      records = (q i).records;
+      modes = (q i).modes;
+      order = (q i).order;
+      left = (q i).left;
+      calls = (q i).calls;
+      weight = (q i).weight;
+      weights = (q i).weights;
+    }

@@ -1,6 +1,10 @@
 -- What start, step and end promise: document 01, "Calls" and "Refused, by operation". A run promises it by its parts (crate
 -- `changes`).
-use Rattle.std.specs.Prelude.{ℕ, zero, suc, List, [], ◌∷◌}
+use Rattle.std.specs.Prelude.{ℕ, zero, suc, ◌≡◌, ◌+◌, ◌*◌, ◌<◌, List, [], ◌∷◌, Result, Ok, Err}
+use Rattle.semantics.specs.declared.CallRefusal.{CallRefusal}
+use Rattle.semantics.specs.Sequential.{made_by}
+use Rattle.tables.specs.Children.{numbers}
+use Rattle.tables.specs.declared.Block.{Block}
 use Rattle.semantics.specs.Plan.{Action, start, step, «end»}
 use Rattle.semantics.specs.Call.{Call, Outcome}
 use Rattle.plans.specs.Calls.{call_of}
@@ -8,15 +12,29 @@ use Rattle.plans.specs.Calls as Model
 use Rattle.changes.specs.Calls as Of
 use Rattle.runtime.specs.declared.Run.{Run}
 use Rattle.runtime.specs.declared.Called.{Called}
-use Rattle.runtime.specs.View.{parts_of}
+use Rattle.runtime.specs.View.{parts_of, SoundRun}
 
 -- what the model decides of a call on task n
 abbrev pub decided : Run → Action → ℕ → Outcome
 decided run a n = Model.decided (parts_of run) a n
 
--- A call on task n of the run `from`, "each with any job number", and what it hands back.
+-- A call on task n of the run `from`, "each with any job number": what it answers, and the run that it leaves.
+abbrev pub MadeAs : Action → Run → ℕ → Result Unit CallRefusal → Run → Type 0
+MadeAs a from n given r = Of.CalledAs a (parts_of from) n given (parts_of r)
+
+-- the same of what is handed back
 abbrev pub CalledAs : Action → Run → ℕ → Called → Type 0
-CalledAs a from n r = Of.CalledAs a (parts_of from) n r.answer (parts_of r.run)
+CalledAs a from n r = MadeAs a from n r.answer r.run
+
+-- A step that is accepted: these tasks are made, foremost first, and each has a place among the records.
+pub record Makes (from : Run) (n : ℕ) (made : Block) : Type 0 where
+  pub numbers : SoundRun from → made_by (decided from step n) ≡ numbers made.first made.apart made.children
+  pub near : (i : ℕ) → i < made.children → made.first + i * made.apart < 128
+
+-- a step on task n, where it is accepted with the tasks that it makes
+abbrev pub SteppedAs : Run → ℕ → Result Block CallRefusal → Run → Type 0
+SteppedAs from n (Ok made) r = MadeAs step from n (Ok tt) r × Makes from n made
+SteppedAs from n (Err k) r = MadeAs step from n (Err k) r
 
 -- "0 start, 1 step, 2 end, then the job"; another kind is no call
 unfoldable pub calls_of_kind : ℕ → ℕ → List Call

@@ -2,7 +2,11 @@
 // `semantics`, for every run that came from open, the sequential run or calls; on any other run a call ends safely.
 #![tactic(auto)]
 
-use semantics::{Answer, CallRefusal, Record};
+ghost use Rattle.std.specs.Prelude.{◌≡◌};
+ghost use Rattle.runtime.specs.declared.OpenRefusal.TheVariants.{List};
+ghost use Rattle.runtime.specs.Asked.{open_number};
+
+use semantics::{CallRefusal, Record};
 use tasklist::{Refusal, Tables};
 
 // A run (document 01: an open run): the accepted list, the memory (the entries), a record for each task with its row of 64
@@ -25,16 +29,15 @@ pub struct Run {
 // What start, step and end hand back: the answer, and the run after the call, the very same one where it is refused.
 #[derive(Clone, Copy)]
 pub struct Called {
-    pub answer: Answer,
+    pub answer: Result<(), CallRefusal>,
     pub run: Run,
 }
 
-// What open answers.
-#[derive(Clone, Copy)]
-pub enum OpenAnswer {
-    Accepted,
+// Why open refuses.
+#[derive(Clone, Copy, Debug, PartialEq, Eq)]
+pub enum OpenRefusal {
     // 1 to 7: the list is refused.
-    Refused { refusal: Refusal },
+    List(Refusal),
     // 8: the memory's length is not C.
     Length,
     // 21: the table of weights has another length.
@@ -43,28 +46,36 @@ pub enum OpenAnswer {
     Weight,
 }
 
-// What open gives: the answer, and the run, a blank one where it is refused.
-#[derive(Clone, Copy)]
-pub struct Opened {
-    pub answer: OpenAnswer,
-    pub run: Run,
+impl From<Refusal> for OpenRefusal {
+    ghost from_gives = { λ k e. e ≡ List k };
+
+    fn from(refusal: Refusal) -> OpenRefusal {
+        OpenRefusal::List(refusal)
+    }
 }
 
-// One task's record and its modes, all zero where it is refused.
+// Document 01's number of the refusal.
+impl From<OpenRefusal> for u8 {
+    ghost from_gives = { λ k n. n ≡ open_number k };
+
+    #[tactic(auto, unfolding(crate::specs::Asked::open_number))]
+    fn from(refusal: OpenRefusal) -> u8 {
+        match refusal {
+            OpenRefusal::List(k) => u8::from(k),
+            OpenRefusal::Length => 8,
+            OpenRefusal::Table => 21,
+            OpenRefusal::Weight => 22,
+        }
+    }
+}
+
+// One task's record and its modes.
 #[derive(Clone, Copy)]
 pub struct Recorded {
-    pub answer: Answer,
     pub task: Record,
     pub modes: [u8; 64],
 }
 
-// What queue answers.
-#[derive(Clone, Copy)]
-pub enum Queued {
-    // How many places it wrote.
-    Places(usize),
-    Refused { refusal: CallRefusal },
-}
-
 mod calls;
+mod put;
 mod step;

@@ -1,76 +1,42 @@
 // The step on a run: what it changes is put into it, then the records of the tasks made.
 ghost use Rattle.semantics.specs.Plan.{step};
-ghost use Rattle.runtime.specs.Calls.{CalledAs};
+ghost use Rattle.runtime.specs.Calls.{SteppedAs, CalledAs};
 
-use crate::calls::out_of_range;
+use crate::put::put_made;
 use crate::{Called, Run};
-use records::child_record;
-use semantics::Answer;
+use semantics::CallRefusal;
 use steps::step_change;
+use tables::Block;
 
 impl Run {
-    // One instruction: 9 number above 127, 10 not in the order, 13 not started, 14 at its end, 19 and 20 held back.
-    pub fn step(self, task: u32) -> Called
-        ensures { CalledAs step self task result }
+    // One instruction, and the tasks that it makes: 9 number above 127, 10 not in the order, 13 not started, 14 at its end, 19
+    // and 20 held back.
+    pub fn try_step(&mut self, task: u32) -> Result<Block, CallRefusal>
+        ensures { SteppedAs self.old task result self.new }
     {
-        if 127 < task {
-            return out_of_range(self);
-        }
-        let n = task as usize;
-        let own = self.records[n];
+        let own = self.record(task)?;
         let weights = self.weights;
-        let tables = self.tables;
-        let mut memory = self.memory;
-        let mut modes = self.modes;
-        let mut order = self.order;
         let change = step_change(
-            tables,
-            &mut memory,
-            &mut modes,
-            &mut order,
+            self.tables,
+            &mut self.memory,
+            &mut self.modes,
+            &mut self.order,
             self.left,
             own,
             task,
             weights,
-        );
-        let answer = change.answer;
-        match answer {
-            Answer::Refused { refusal } => Called {
-                answer: Answer::Refused { refusal },
-                run: self,
-            },
-            Answer::Accepted => {
-                let next = change.own;
-                let mut records = self.records;
-                records[n] = next;
-                let calls = std::num::wrapping_add_u32(self.calls, change.calls);
-                let weight = std::num::wrapping_add_u32(self.weight, change.weight);
-                let made = change.made;
-                let child = change.child;
-                let apart = change.apart;
-                // the tasks made, the last first
-                let mut i = change.children;
-                while 0 < i {
-                    i -= 1;
-                    let born = child_record(made, i as u32);
-                    records[child + i * apart] = born;
-                }
-                let run = Run {
-                    tables,
-                    memory,
-                    records,
-                    modes,
-                    order,
-                    left: change.left,
-                    calls,
-                    weight,
-                    weights,
-                };
-                Called {
-                    answer: Answer::Accepted,
-                    run,
-                }
-            }
-        }
+        )?;
+        self.put(task as usize, &change);
+        put_made(&mut self.records, &change);
+        Ok(change.block)
+    }
+
+    // The same of a run by value.
+    pub fn step(self, task: u32) -> Called
+        ensures { CalledAs step self task result }
+    {
+        let mut run = self;
+        let answer = run.try_step(task).map(|_| ());
+        Called { answer, run }
     }
 }

@@ -74,17 +74,7 @@ places n e = map (λ x. x.number) e.made ++ stays e.leaves n
 
 -- "adds .. its weight to record"
 abbrev pub charged : ℕ → Task → Task
-charged w t =
-    record {
-      state = t.state;
-      body = t.body;
-      pc = t.pc;
-      registers = t.registers;
-      modes = t.modes;
-      steps = t.steps;
-      fault = t.fault;
-      weight = t.weight + w;
-    }
+charged w t = record t { weight = t.weight + w }
 
 -- the records that a call of task n writes: its own, and those of the tasks made
 unfoldable pub changes : ℕ → Effect → List Numbered

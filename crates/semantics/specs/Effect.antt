@@ -36,44 +36,23 @@ own w t = record { task = t; edit = keep; made = []; leaves = false; weight = w 
 
 -- "its state becomes"
 abbrev pub in_state : ℕ → Task → Task
-in_state s t =
-    record {
-      state = s;
-      body = t.body;
-      pc = t.pc;
-      registers = t.registers;
-      modes = t.modes;
-      steps = t.steps;
-      fault = t.fault;
-      weight = t.weight;
-    }
+in_state s t = record t { state = s }
 
 -- "place rises by 1 plus what a skip passes over, instructions done by 1": on by k, with these registers
 abbrev pub moved : ℕ → List ℕ → Task → Task
 moved k registers t =
-    record {
-      state = t.state;
-      body = t.body;
+    record t {
       pc = t.pc + k;
       registers = registers;
-      modes = t.modes;
       steps = suc t.steps;
-      fault = t.fault;
-      weight = t.weight;
     }
 
 -- "done rises, but no place, register, entry or other job changes, and the job is then at its end"
 abbrev pub faulted : ℕ → Task → Task
 faulted k t =
-    record {
-      state = t.state;
-      body = t.body;
-      pc = t.pc;
-      registers = t.registers;
-      modes = t.modes;
+    record t {
       steps = suc t.steps;
       fault = k;
-      weight = t.weight;
     }
 
 -- one step on, with a value in register a

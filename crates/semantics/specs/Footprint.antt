@@ -68,17 +68,7 @@ children s ls (t ∷ ts) = with_first s t (child_modes t ls) (children s ls ts)
 
 -- request 104: "Child i has R0 = i, and its footprint is found with that R0."
 abbrev pub first_register : ℕ → Task → Task
-first_register i t =
-    record {
-      state = t.state;
-      body = t.body;
-      pc = t.pc;
-      registers = set t.registers 0 i;
-      modes = t.modes;
-      steps = t.steps;
-      fault = t.fault;
-      weight = t.weight;
-    }
+first_register i t = record t { registers = set t.registers 0 i }
 
 -- the spawner as k children see it, from child i on
 unfoldable pub fan_of : ℕ → ℕ → Task → List Task

@@ -2,7 +2,12 @@
 // here are shared with the runtime, whose promises use the definitions.
 #![tactic(auto)]
 
+ghost use Rattle.std.specs.Prelude.{◌≡◌};
+ghost use Rattle.semantics.specs.Answers.{refusal_number, fault_number};
+
 // A task's record (document 01: job), but for its 64 modes, which the runtime keeps in one table for all tasks.
+// Kept: numbers in the place of enums of the states and the faults. Any run is handled, also one whose record holds a state
+// or a fault that no call makes, and a narrower type would ask more of callers.
 #[derive(Clone, Copy)]
 pub struct Record {
     // 0 never made, 1 waiting, 2 started, 3 ended
@@ -19,8 +24,8 @@ pub struct Record {
 }
 
 // Why a call, a record or a queue is refused: document 01's numbers 9 to 17, in this order, and request 102's 19 and 20 in
-// the place of 12.
-#[derive(Clone, Copy)]
+// the place of 12. What start, step and end answer is a Result<(), CallRefusal>.
+#[derive(Clone, Copy, Debug, PartialEq, Eq)]
 pub enum CallRefusal {
     // 9: a task number above 127.
     Number,
@@ -44,9 +49,49 @@ pub enum CallRefusal {
     Short,
 }
 
-// What start, step and end answer: 0 or the refusal's number.
-#[derive(Clone, Copy)]
-pub enum Answer {
-    Accepted,
-    Refused { refusal: CallRefusal },
+// Document 01's number of a refusal.
+impl From<CallRefusal> for u8 {
+    ghost from_gives = { λ refusal number. number ≡ refusal_number refusal };
+
+    fn from(refusal: CallRefusal) -> u8 {
+        match refusal {
+            CallRefusal::Number => 9,
+            CallRefusal::Absent => 10,
+            CallRefusal::Started => 11,
+            CallRefusal::BehindWriter => 19,
+            CallRefusal::BehindOthers => 20,
+            CallRefusal::Waiting => 13,
+            CallRefusal::Finished => 14,
+            CallRefusal::Unfinished => 15,
+            CallRefusal::Location => 16,
+            CallRefusal::Short => 17,
+        }
+    }
+}
+
+// Why an instruction faults.
+#[derive(Clone, Copy, Debug, PartialEq, Eq)]
+pub enum Fault {
+    // 1: the location is not in the footprint.
+    Outside,
+    // 2: its mode does not allow the access.
+    Mode,
+    // 4: the result is above 2^32 - 1.
+    TooLarge,
+    // 5: the divisor is 0.
+    ZeroDivisor,
+}
+
+// Document 01's number of a fault.
+impl From<Fault> for u8 {
+    ghost from_gives = { λ fault number. number ≡ fault_number fault };
+
+    fn from(fault: Fault) -> u8 {
+        match fault {
+            Fault::Outside => 1,
+            Fault::Mode => 2,
+            Fault::TooLarge => 4,
+            Fault::ZeroDivisor => 5,
+        }
+    }
 }

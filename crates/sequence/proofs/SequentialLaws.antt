@@ -1,11 +1,11 @@
 -- The sequential run of the code: changes put into the run that is put together, a task that is run whole, and the run that
 -- is handed back. Assumes nothing.
-use Rattle.std.proofs.Common.{◌≡◌, ℕ, zero, suc, ◌+◌, ◌-◌, ◌*◌, ◌%◌, ◌^◌, ◌<◌, ◌≤◌, Bool, true, false, cond, List, [], ◌∷◌, length, set, sym, refl, ap, ◌∙◌, subst, suc-mul, add-one, sub-one, arith}
-use Rattle.tasklist.specs.declared.Tables.{Tables}
+use Rattle.std.specs.Prelude.{Result, Ok, Err, IsErrAnd}
+use Rattle.std.proofs.Common.{◌≡◌, ℕ, zero, suc, ◌+◌, ◌-◌, ◌*◌, ◌<◌, ◌≤◌, Bool, true, false, cond, List, [], ◌∷◌, length, sym, refl, ap, ◌∙◌, subst, suc-mul, add-one, sub-one, arith}
 use Rattle.tasklist.specs.TaskList.{body_of}
 use Rattle.tasklist.specs.Decode.{decode, accepted}
 use Rattle.tasklist.specs.Tables.{list_of}
-use Rattle.semantics.specs.declared.Record.{Record}
+use Rattle.semantics.specs.declared.CallRefusal.{CallRefusal}
 use Rattle.semantics.specs.Run.{Context, task_of}
 use Rattle.semantics.specs.Run as Semantics
 use Rattle.semantics.specs.Plan.{at_end, start, step, «end»}
@@ -13,116 +13,23 @@ use Rattle.semantics.specs.Call.{decide, after, after_all}
 use Rattle.semantics.specs.Sequential.{made_by, start_of, step_of, end_of, run_each, step_through, steps_through, enough, run_whole, sequential}
 use Rattle.semantics.specs.Operations.{gives, with_list, open_asked, sequential_asked}
 use Rattle.runtime.specs.declared.Run.{Run}
-use Rattle.changes.specs.declared.Change.{Change}
-use Rattle.runtime.specs.declared.Opened.{Opened}
-use Rattle.runtime.specs.declared.OpenAnswer.TheVariants as Opening
+use Rattle.runtime.specs.declared.OpenRefusal.{OpenRefusal}
 use Rattle.plans.specs.Calls.{call_of}
 use Rattle.looks.specs.Looks.{BodySize}
-use Rattle.changes.specs.Calls.{CallsMade as PartsMade}
-use Rattle.changes.specs.Changes.{put, StartedBy, EndedBy}
-use Rattle.steps.specs.Stepping.{with_children, with_made, SteppedBy, Makes}
 use Rattle.runtime.specs.View.{parts_of, model, context_of, SoundRun}
-use Rattle.runtime.specs.Calls.{decided, CallsMade}
+use Rattle.runtime.specs.Calls.{decided, SteppedAs, CallsMade}
 use Rattle.runtime.specs.Parts.{record_of}
 use Rattle.runtime.specs.Asked.{open_number, OpenedAs}
 use Rattle.plans.proofs.DecideLaws.{own_task}
-use Rattle.changes.proofs.ChangeLaws.{change_made}
-use Rattle.steps.proofs.ChildrenLaws.{ChildrenLeft, children_all, child_written, children_written}
+use Rattle.runtime.proofs.CallLaws.{step_made, refused_makes_none}
 use Rattle.runtime.proofs.ViewLaws.{same_context}
-use Rattle.records.specs.Records.{child_record}
 use Rattle.tables.specs.Children.{numbers}
-use Rattle.sequence.specs.declared.Progress.{Progress}
-use Rattle.sequence.specs.Replays.{joined, RunWhole}
+use Rattle.sequence.specs.Replays.{RunWhole}
 use Rattle.sequence.proofs.ReplayLaws.{still_unopened, Fresh, now_fresh}
-
--- A change put into the run that is put together.
-abbrev pub onward : Progress → ℕ → Change → ℕ → ℕ → Progress
-onward p n c calls weight =
-    record { records = set p.records n c.own; left = c.left; calls = calls; weight = weight }
-
-abbrev pub with_records : Progress → List Record → Progress
-with_records p rs = record { records = rs; left = p.left; calls = p.calls; weight = p.weight }
-
-module _
-    (tables : Tables) (weights : List ℕ) (p : Progress) (memory modes order : List ℕ) (n : ℕ) (c : Change) (calls weight : ℕ)
-    (more : calls ≡ (p.calls + c.calls) % 2 ^ 32) (heavier : weight ≡ (p.weight + c.weight) % 2 ^ 32)
-  where
-    abbrev before : Run
-    before = joined tables weights p memory modes order
-
-    put_joined :
-        (m ms o : List ℕ)
-        → parts_of (joined tables weights (onward p n c calls weight) m ms o) ≡ put n c (parts_of (joined tables weights p m ms o))
-    put_joined m ms o = λ i. record {
-      tables = tables;
-      memory = m;
-      records = set p.records n c.own;
-      modes = ms;
-      order = o;
-      left = c.left;
-      calls = more i;
-      weight = heavier i;
-      weights = weights;
-    }
-
-    pub start_joined :
-        StartedBy order modes p.left (record_of before n) n weights c
-        → CallsMade (call_of start n ∷ []) before (joined tables weights (onward p n c calls weight) memory modes order)
-    start_joined h =
-        subst (PartsMade (call_of start n ∷ []) (parts_of before)) (sym (put_joined memory modes order))
-        (change_made start (parts_of before) n (put n c (parts_of before)) c.answer (h (parts_of before) refl refl))
-
-    pub end_joined :
-        (o : List ℕ) (size : ℕ) → BodySize size (record_of before n) (parts_of before)
-        → EndedBy order o p.left (record_of before n) size n weights c
-        → CallsMade (call_of «end» n ∷ []) before (joined tables weights (onward p n c calls weight) memory modes o)
-    end_joined o size fits h =
-        subst (PartsMade (call_of «end» n ∷ []) (parts_of before)) (sym (put_joined memory modes o))
-        (change_made «end» (parts_of before) n (put n c (parts_of (joined tables weights p memory modes o))) c.answer
-        (h (parts_of before) refl refl fits))
-
-    module _ (m ms o : List ℕ) (h : SteppedBy tables memory modes order m ms o p.left (record_of before n) n weights c) where
-      -- with the records of the tasks made
-      pub step_joined :
-          (q : Progress)
-          → q ≡ with_records (onward p n c calls weight) (with_children c.child c.apart c.made c.children (set p.records n c.own))
-          → CallsMade (call_of step n ∷ []) before (joined tables weights q m ms o)
-      step_joined q written =
-          subst (λ x. CallsMade (call_of step n ∷ []) before (joined tables weights x m ms o)) (sym written)
-          (subst (λ x. PartsMade (call_of step n ∷ []) (parts_of before) (with_made c x)) (sym (put_joined m ms o))
-          (change_made step (parts_of before) n (with_made c (put n c (parts_of (joined tables weights p m ms o)))) c.answer
-          (h.1 (parts_of before) refl refl).0))
-
-      pub makes_joined : SoundRun before → Makes (parts_of before) n c
-      makes_joined = (h.1 (parts_of before) refl refl).1
-
--- The records of the first i tasks made are still to be written; the rest is as it was.
-pub record Writing (child apart : ℕ) (made : Record) (children : ℕ) (from : Progress) (i : ℕ) (p : Progress) : Type 0 where
-  pub children_left : ChildrenLeft child apart made children from.records i p.records
-  pub rest : p ≡ with_records from p.records
-
-module _ (child apart : ℕ) (made : Record) (children : ℕ) (from : Progress) where
-  pub writing_all : Writing child apart made children from children from
-  writing_all = record { children_left = children_all child apart made children from.records; rest = refl }
-
-  pub writing_one :
-      (i : ℕ) (p : Progress) → 0 < i → Writing child apart made children from i p → (t : Record) → t ≡ child_record (i - 1) made
-      → Writing child apart made children from (i - 1) (with_records p (set p.records (child + (i - 1) * apart) t))
-  writing_one i p h w t q =
-      record {
-        children_left = child_written child apart made children from.records i p.records h w.children_left t q;
-        rest = ap (λ x. with_records x (set p.records (child + (i - 1) * apart) t)) w.rest;
-      }
-
-  pub writing_done :
-      (i : ℕ) (p : Progress) → i ≤ 0 → Writing child apart made children from i p
-      → p ≡ with_records from (with_children child apart made children from.records)
-  writing_done i p h w =
-      w.rest ∙ ap (with_records from) (children_written child apart made children from.records i p.records h w.children_left)
 
 -- How many steps a body has room for.
 module _ (run : Run) (n : ℕ) (below : n < 128) (size : ℕ)
-    (same : size ≡ length (body_of (list_of run.tables) (record_of run n).body)) where
+    (same : BodySize size (record_of run n) (parts_of run)) where
   pub enough_steps : SoundRun run → size + 1 ≡ enough (context_of run) (model run) n
   unfolding enough
   enough_steps s =
@@ -173,6 +80,13 @@ turn_ended bodies n limit from t r before b ends q =
           (ap (λ c. at_end c (task_of (model r) n)) (sym (same_context r from before.list before.weights)) ∙ sym (ends (before.sound s)) ∙ q);
       sound = before.sound;
     }
+
+-- nor where they are spent
+pub turn_spent :
+    (bodies n limit : ℕ) (from : Run) (t : ℕ) (r : Run) → StepsLeft bodies n limit from t r → t ≤ 0 → StepsLeft bodies n limit from 0 r
+turn_spent bodies n limit from t r before h =
+    let none : t ≡ 0 = omega arith in
+    subst (λ k. StepsLeft bodies n limit from k r) none before
 
 -- The tasks that are still to be run whole: from number j of them on in r, and from the first on in the run `from`.
 pub record EachLeft (bodies child apart children : ℕ) (from : Run) (j : ℕ) (r : Run) : Type 0 where
@@ -289,6 +203,16 @@ module _
           sound = λ s. each.sound (stepped.sound (before.sound s));
         }
 
+-- a turn whose step is refused makes no task
+pub turn_refused :
+    (bodies n limit : ℕ) (from : Run) (t : ℕ) (r next : Run) → StepsLeft bodies n limit from t r → 0 < t → (b : Bool)
+    → (SoundRun r → b ≡ at_end (context_of r) (task_of (model r) n)) → b ≡ false
+    → (k : CallRefusal) → SteppedAs r n (Err k) next → StepsLeft bodies n limit from (t - 1) next
+unfolding numbers
+turn_refused bodies n limit from t r next before more b ends going k h =
+    turn_taken bodies n limit from t r next before more b ends going (step_made r n (Err k) next h) 0 0 0
+    (λ s. refused_makes_none r n k next h s) 0 next (omega arith) (each_all bodies 0 0 0 next)
+
 -- no body left
 pub whole_none : (bodies n : ℕ) (run : Run) → bodies ≡ 0 → RunWhole bodies n run run
 unfolding run_whole
@@ -337,42 +261,45 @@ module _
           sound = λ s. done.sound (steps.sound (begun.sound s));
         }
 
-    pub whole_spent : t ≤ 0 → RunWhole bodies n run d
-    whole_spent h = whole_run (λ s. no_more t h)
-      where
-        no_more : (k : ℕ) → k ≤ 0 → steps_through (context_of from) (run_whole (context_of from) (bodies - 1)) n k (model r) ≡ model r
-        no_more zero g = unfold steps_through in refl
-        no_more (suc k) g = let z : ⊥ = omega arith in absurd z
+-- no step is left
+pub whole_spent :
+    (bodies n : ℕ) (run from : Run) → (bodies ≡ 0 → ⊥) → (limit : ℕ)
+    → (SoundRun run → limit ≡ enough (context_of run) (model run) n) → CallsMade (call_of start n ∷ []) run from
+    → (r : Run) → StepsLeft bodies n limit from 0 r → (d : Run) → CallsMade (call_of «end» n ∷ []) r d → RunWhole bodies n run d
+whole_spent bodies n run from some limit room begun r steps d done =
+    whole_run bodies n run from some limit room begun 0 r steps d done (λ s. unfold steps_through in refl)
 
 -- the sequential run's two answers
-module _ (bytes memory weights : List ℕ) (o : Opened) (h : OpenedAs bytes weights (open_asked bytes memory weights) o) where
-  pub sequential_refused : o.run.left ≡ 0 → OpenedAs bytes weights (sequential_asked bytes memory weights) o
+module _ (bytes memory weights : List ℕ) where
+  pub sequential_refused :
+      (k : OpenRefusal) → OpenedAs bytes weights (open_asked bytes memory weights) (Err k) → (given : Result Run OpenRefusal)
+      → IsErrAnd given (λ e. e ≡ k) → OpenedAs bytes weights (sequential_asked bytes memory weights) given
   unfolding sequential_asked
-  sequential_refused z =
-      let u = still_unopened bytes memory weights o h (λ c. sequential c memory) z in
-      subst (λ a. OpenedAs bytes weights a o) (sym u.1) u.2
+  sequential_refused k h (Ok _) q = elim q [ ]
+  sequential_refused k h (Err e) q =
+      subst (λ a. OpenedAs bytes weights a (Err e)) (sym (still_unopened bytes memory weights k h (λ c. sequential c memory)))
+      (ap open_number q)
 
   pub sequential_made :
-      (o.run.left ≡ 0 → ⊥) → (bodies : ℕ) → bodies ≡ length (list_of o.run.tables).bodies → (r : Run)
-      → RunWhole bodies 0 o.run r
-      → OpenedAs bytes weights (sequential_asked bytes memory weights) (record { answer = Opening.Accepted; run = r })
-  unfolding sequential_asked open_number
-  sequential_made z bodies q r whole =
-      subst (λ a. OpenedAs bytes weights a (record { answer = Opening.Accepted; run = r })) (sym w.1)
+      (o : Run) → OpenedAs bytes weights (open_asked bytes memory weights) (Ok o) → (bodies : ℕ)
+      → bodies ≡ length (list_of o.tables).bodies → (r : Run) → RunWhole bodies 0 o r
+      → OpenedAs bytes weights (sequential_asked bytes memory weights) (Ok r)
+  unfolding sequential_asked
+  sequential_made o h bodies q r whole =
+      subst (λ a. OpenedAs bytes weights a (Ok r)) (sym w.1)
       (record {
-        answer = refl;
         run = run_after;
         list = w.0.list ∙ ap (λ t. accepted (list_of t)) (sym whole.list);
         table = whole.weights ∙ w.0.table;
         sound = whole.sound w.0.sound;
       })
     where
-      w : Fresh bytes memory weights o × (with_list (decode bytes) memory weights (λ c. sequential c memory) ≡ gives (sequential (context_of o.run) memory))
-      w = now_fresh bytes memory weights o h (λ c. sequential c memory) z
+      w : Fresh bytes memory weights o × (with_list (decode bytes) memory weights (λ c. sequential c memory) ≡ gives (sequential (context_of o) memory))
+      w = now_fresh bytes memory weights o h (λ c. sequential c memory)
 
-      run_after : model r ≡ sequential (context_of o.run) memory
+      run_after : model r ≡ sequential (context_of o) memory
       run_after =
           whole.run w.0.sound
-          ∙ ap (λ k. run_whole (context_of o.run) k 0 (model o.run)) q
-          ∙ ap (run_whole (context_of o.run) (length (list_of o.run.tables).bodies) 0) w.0.run
+          ∙ ap (λ k. run_whole (context_of o) k 0 (model o)) q
+          ∙ ap (run_whole (context_of o) (length (list_of o.tables).bodies) 0) w.0.run
           ∙ (unfold sequential in refl)

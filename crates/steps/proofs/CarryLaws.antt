@@ -11,17 +11,20 @@ use lib.Seq.{get_or-take, set_out, take-set-lt, take-set-le}
 use Rattle.tasklist.specs.TaskList.{footprint_of}
 use Rattle.tasklist.specs.Tables.{list_of}
 use Rattle.semantics.specs.declared.Record.{Record}
-use Rattle.semantics.specs.declared.Answer.TheVariants as Answers
+use Rattle.semantics.specs.declared.Fault.{Fault}
+use Rattle.std.specs.Prelude.{Result, Ok, Err}
 use Rattle.semantics.specs.Run.{Task, task_of}
 use Rattle.semantics.specs.Access.{every}
 use Rattle.semantics.specs.Effect.{Edit, keep, put, add, Effect, moved, faulted, assigned}
 use Rattle.semantics.specs.Footprint.{Children, none_made, all_made, children, first_register}
 use Rattle.semantics.specs.Plan.{step, plan_make}
 use Rattle.semantics.specs.Call.{Outcome, refuse, accept, admit, settle, sum_of, edited, charged, written, splice, stays, places, changes, apply}
-use Rattle.semantics.specs.Answers.{task_from}
+use Rattle.semantics.specs.Answers.{fault_number, task_from}
 use Rattle.arrays.specs.Rows.{row}
 use Rattle.tables.specs.Children.{seen_from}
 use Rattle.records.specs.Records.{passed, failed, holding}
+use Rattle.plans.specs.declared.Stop.{Stop}
+use Rattle.plans.specs.declared.Stop.TheVariants as Stops
 use Rattle.plans.specs.declared.StepPlan.{StepPlan}
 use Rattle.plans.specs.declared.StepPlan.TheVariants as Planned
 use Rattle.plans.specs.View.{Parts, tasks_from, model, context_of, SoundRun, Placed, record_of}
@@ -40,18 +43,7 @@ onward n t w run = applied n t run.order run.left w run
 
 -- the run with another memory
 abbrev pub with_memory : List ℕ → Parts → Parts
-with_memory memory run =
-    record {
-      tables = run.tables;
-      memory = memory;
-      records = run.records;
-      modes = run.modes;
-      order = run.order;
-      left = run.left;
-      calls = run.calls;
-      weight = run.weight;
-      weights = run.weights;
-    }
+with_memory memory run = record run { memory = memory }
 
 -- the run with its memory edited
 abbrev pub editing : Edit → Parts → Parts
@@ -217,7 +209,7 @@ module _ (run : Parts) (n : ℕ) (below : n < 128) (s : SoundRun run) where
 -- A plan that changes the task's own record alone.
 module _ (run : Parts) (n place w : ℕ) (below : n < 128) where
   pub own_carried :
-      (p : StepPlan) (own : Record) → own.weight ≡ (record_of run n).weight
+      (p : Result StepPlan Stop) (own : Record) → own.weight ≡ (record_of run n).weight
       → (SoundRun run → planned run n w p ≡ accept (own_effect (task_from own (row n run.modes)) false w))
       → Carries n place w p run (onward n own w run)
   own_carried p own same fits =
@@ -231,20 +223,20 @@ module _ (run : Parts) (n place w : ℕ) (below : n < 128) where
         );
       }
 
-  pub fault_carried : (k : ℕ) → Carries n place w (Planned.Fault k) run (onward n (failed k (record_of run n)) w run)
+  pub fault_carried : (k : Fault) → Carries n place w (Err (Stops.Fault k)) run (onward n (failed (fault_number k) (record_of run n)) w run)
   fault_carried k =
-      own_carried (Planned.Fault k) (failed k (record_of run n)) refl
-      (λ s. unfold planned in ap (λ t. accept (own_effect t false w)) (sym (failed_task run n below s k)))
+      own_carried (Err (Stops.Fault k)) (failed (fault_number k) (record_of run n)) refl
+      (λ s. unfold planned in ap (λ t. accept (own_effect t false w)) (sym (failed_task run n below s (fault_number k))))
 
   pub assign_carried :
-      (a v : ℕ) → Carries n place w (Planned.Assign a v) run (onward n (holding a v (passed 0 (record_of run n))) w run)
+      (a v : ℕ) → Carries n place w (Ok (Planned.Assign a v)) run (onward n (holding a v (passed 0 (record_of run n))) w run)
   assign_carried a v =
-      own_carried (Planned.Assign a v) (holding a v (passed 0 (record_of run n))) refl
+      own_carried (Ok (Planned.Assign a v)) (holding a v (passed 0 (record_of run n))) refl
       (λ s. unfold planned in ap (λ t. accept (own_effect t false w)) (sym (assigned_task run n below s a v)))
 
-  pub pass_carried : (k : ℕ) → k < 256 → Carries n place w (Planned.Pass k) run (onward n (passed k (record_of run n)) w run)
+  pub pass_carried : (k : ℕ) → k < 256 → Carries n place w (Ok (Planned.Pass k)) run (onward n (passed k (record_of run n)) w run)
   pass_carried k h =
-      own_carried (Planned.Pass k) (passed k (record_of run n)) refl
+      own_carried (Ok (Planned.Pass k)) (passed k (record_of run n)) refl
       (λ s. unfold planned in ap (λ t. accept (own_effect t false w)) (sym (passed_task run n below s k h)))
 
   module _ (s : SoundRun run) (light : w < 2 ^ 24) where
@@ -280,7 +272,7 @@ module _ (run : Parts) (n place w : ℕ) (below : n < 128) where
 
   -- a plan that edits the memory: a store, a sum
   pub edit_carried :
-      (p : StepPlan) (x : Edit) → planned run n w p ≡ accept (edit_effect w x (task_of (model run) n))
+      (p : Result StepPlan Stop) (x : Edit) → planned run n w p ≡ accept (edit_effect w x (task_of (model run) n))
       → Carries n place w p run (editing x (onward n (passed 0 (record_of run n)) w run))
   edit_carried p x is =
       record {
@@ -303,29 +295,29 @@ module _ (run : Parts) (n place w : ℕ) (below : n < 128) where
             left = h.left;
           }
 
-abbrev pub holds_back : StepPlan → Bool
-holds_back (Planned.Held k) = true
-holds_back (Planned.Fault k) = false
-holds_back (Planned.Assign a v) = false
-holds_back (Planned.Pass k) = false
-holds_back (Planned.Store a v) = false
-holds_back (Planned.Sum a v) = false
-holds_back (Planned.Make s f first k) = false
+abbrev pub holds_back : Result StepPlan Stop → Bool
+holds_back (Err (Stops.Held k)) = true
+holds_back (Err (Stops.Fault k)) = false
+holds_back (Ok (Planned.Assign a v)) = false
+holds_back (Ok (Planned.Pass k)) = false
+holds_back (Ok (Planned.Store a v)) = false
+holds_back (Ok (Planned.Sum a v)) = false
+holds_back (Ok (Planned.Make s f first k)) = false
 
 -- the effect of a plan that is not held back
 module _ (run : Parts) (n w : ℕ) where
-  abbrev pub plan_effect : StepPlan → Effect
+  abbrev pub plan_effect : Result StepPlan Stop → Effect
   plan_effect p = effect_in (own_effect (task_of (model run) n) false w) (planned run n w p)
 
-  pub accepted_plan : (p : StepPlan) → holds_back p ≡ false → planned run n w p ≡ accept (plan_effect p)
+  pub accepted_plan : (p : Result StepPlan Stop) → holds_back p ≡ false → planned run n w p ≡ accept (plan_effect p)
   unfolding planned
-  accepted_plan (Planned.Held k) h = absurd (false≢true (sym h))
-  accepted_plan (Planned.Fault k) h = refl
-  accepted_plan (Planned.Assign a v) h = refl
-  accepted_plan (Planned.Pass k) h = refl
-  accepted_plan (Planned.Store a v) h = refl
-  accepted_plan (Planned.Sum a v) h = refl
-  accepted_plan (Planned.Make s f first k) h =
+  accepted_plan (Err (Stops.Held k)) h = absurd (false≢true (sym h))
+  accepted_plan (Err (Stops.Fault k)) h = refl
+  accepted_plan (Ok (Planned.Assign a v)) h = refl
+  accepted_plan (Ok (Planned.Pass k)) h = refl
+  accepted_plan (Ok (Planned.Store a v)) h = refl
+  accepted_plan (Ok (Planned.Sum a v)) h = refl
+  accepted_plan (Ok (Planned.Make s f first k)) h =
       sort (children s (footprint_of (list_of run.tables) f) (seen_from 0 k (first_register first (task_of (model run) n))))
     where
       sort :
@@ -337,9 +329,9 @@ module _ (run : Parts) (n w : ℕ) where
 
 -- A step that is accepted.
 pub step_taken :
-    (run : Parts) (n place w : ℕ) (p : StepPlan) (r : Parts) → holds_back p ≡ false → w < 2 ^ 24
+    (run : Parts) (n place w : ℕ) (p : Result StepPlan Stop) (r : Parts) → holds_back p ≡ false → w < 2 ^ 24
     → (SoundRun run → Placed run n place × (decided run step n ≡ planned run n w p)) → Carries n place w p run r
-    → CalledAs step run n Answers.Accepted r
+    → CalledAs step run n (Ok tt) r
 step_taken run n place w p r free light h c =
     called_taken step run n (plan_effect run n w p) r c.list c.weights (λ s. (h s).1 ∙ accepted_plan run n w p free)
     (λ s.

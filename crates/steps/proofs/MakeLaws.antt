@@ -19,21 +19,22 @@ use Rattle.semantics.specs.Footprint.{granted, Children, none_made, all_made, ch
 use Rattle.semantics.specs.Plan.{step, child_number, plan_make}
 use Rattle.semantics.specs.Call.{accept, admit, settle, edited, charged, written, splice, stays, places, changes, apply}
 use Rattle.semantics.specs.Sequential.{made_by}
-use Rattle.semantics.specs.Answers.{task_from}
+use Rattle.semantics.specs.Answers.{fault_number, task_from}
 use Rattle.semantics.specs.Sound.{In}
 use Rattle.semantics.proofs.Decide.{Accepts, decide_accept}
 use Rattle.semantics.proofs.Bounds.{room}
 use Rattle.semantics.proofs.Valid.{number_above, made_future, made_below}
 use Rattle.tables.specs.Children.{insert_all, with_rows, seen_from, numbers, Fit, RowsOf}
 use Rattle.arrays.specs.Rows.{row, with}
-use Rattle.grants.specs.Grants.{granted_by, grant_of, child_registers, child_grant, grants_from}
+use Rattle.grants.specs.Grants.{grant_of, child_registers, child_grant, grants_from}
 use Rattle.tables.specs.Numbers.{number_by}
-use Rattle.grants.specs.declared.Grant.TheVariants as Granted
-use Rattle.grants.specs.declared.Granting.{Granting}
+use Rattle.semantics.specs.declared.Fault.{Fault}
+use Rattle.std.specs.Prelude.{Result, Ok, Err}
 use Rattle.arrays.proofs.RowLaws.{with_length, row_with, row_with_other}
 use Rattle.tables.proofs.NumberLaws.{number_holds}
 use Rattle.tables.proofs.ChildLaws.{modes_in, list_from, child_length, given, born, AllBorn, children_denied, children_granted, insert_all_splice}
 use Rattle.records.specs.Records.{passed, failed, holding, newborn, child_record}
+use Rattle.plans.specs.declared.Stop.{Stop}
 use Rattle.plans.specs.declared.StepPlan.{StepPlan}
 use Rattle.plans.specs.declared.StepPlan.TheVariants as Planned
 use Rattle.plans.specs.View.{Parts, tasks_from, model, context_of, SoundRun, Placed, record_of}
@@ -154,7 +155,7 @@ module _ (child apart : ℕ) (made : Record) (rows : ℕ → List ℕ) (g : ℕ 
 
 -- What the children of the task at this place are granted.
 module _
-    (run : Parts) (n place w : ℕ) (below : n < 128) (body f first k : ℕ) (g : Granting) (mine : List ℕ)
+    (run : Parts) (n place w : ℕ) (below : n < 128) (body f first k : ℕ) (g : Result (List ℕ) Fault) (mine : List ℕ)
     (rows : length run.modes ≡ 8192 → n < 128 → mine ≡ row n run.modes)
     (grants :
     grant_of g
@@ -167,8 +168,8 @@ module _
     abbrev seen : Task
     seen = first_register first (task_of (model run) n)
 
-    abbrev plan : StepPlan
-    plan = Planned.Make body f first k
+    abbrev plan : Result StepPlan Stop
+    plan = Ok (Planned.Make body f first k)
 
     grant_is : SoundRun run → grants_from (given body lines seen) 0 k (granted no_modes) ≡ grant_of g
     grant_is s =
@@ -187,26 +188,26 @@ module _
     unfolding planned
     by_children made q = ap (λ x. settle (model run) n (plan_make (context_of run) w n (task_of (model run) n) body x)) q
 
-    none_born : (j : ℕ) → g.grant ≡ Granted.Denied j → SoundRun run → children body lines (seen_from 0 k seen) ≡ none_made j
+    none_born : (j : Fault) → g ≡ Err j → SoundRun run → children body lines (seen_from 0 k seen) ≡ none_made (fault_number j)
     none_born j q s =
-        children_denied body lines seen k 0 j no_modes (grant_is s ∙ ap (λ x. granted_by x g.modes) q)
+        children_denied body lines seen k 0 (fault_number j) no_modes (grant_is s ∙ ap grant_of q)
 
-    pub denied_carried : (j : ℕ) → g.grant ≡ Granted.Denied j → Carries n place w plan run (onward n (failed j (record_of run n)) w run)
+    pub denied_carried : (j : Fault) → g ≡ Err j → Carries n place w plan run (onward n (failed (fault_number j) (record_of run n)) w run)
     denied_carried j q =
-        own_carried run n place w below plan (failed j (record_of run n)) refl
+        own_carried run n place w below plan (failed (fault_number j) (record_of run n)) refl
         (λ s.
-        by_children (none_made j) (none_born j q s)
-        ∙ (unfold plan_make settle admit every in ap (λ t. accept (own_effect t false w)) (sym (failed_task run n below s j))))
+        by_children (none_made (fault_number j)) (none_born j q s)
+        ∙ (unfold plan_make settle admit every in ap (λ t. accept (own_effect t false w)) (sym (failed_task run n below s (fault_number j)))))
 
     pub denied_makes :
-        (j : ℕ) → g.grant ≡ Granted.Denied j → SoundRun run → decided run step n ≡ planned run n w plan → made_by (decided run step n) ≡ []
+        (j : Fault) → g ≡ Err j → SoundRun run → decided run step n ≡ planned run n w plan → made_by (decided run step n) ≡ []
     denied_makes j q s d =
-        ap made_by (d ∙ by_children (none_made j) (none_born j q s)) ∙ (unfold plan_make settle admit every in refl)
+        ap made_by (d ∙ by_children (none_made (fault_number j)) (none_born j q s)) ∙ (unfold plan_make settle admit every in refl)
 
     -- all are made
-    module _ (yes_granted : g.grant ≡ Granted.Granted) (s : SoundRun run) (light : w < 2 ^ 24) where
-      all_born : AllBorn body lines seen 0 k g.modes
-      all_born = children_granted body lines seen k 0 no_modes g.modes (grant_is s ∙ ap (λ x. granted_by x g.modes) yes_granted)
+    module _ (last : List ℕ) (yes_granted : g ≡ Ok last) (s : SoundRun run) (light : w < 2 ^ 24) where
+      all_born : AllBorn body lines seen 0 k last
+      all_born = children_granted body lines seen k 0 no_modes last (grant_is s ∙ ap grant_of yes_granted)
 
       abbrev number : ℕ
       number = child_number (context_of run) n (task_of (model run) n)
@@ -294,7 +295,7 @@ module _
 
             module _ (modes order : List ℕ)
                 (put_in :
-                (rs : ℕ → List ℕ) → RowsOf (set (record_of run n).registers 0 first) mine lines g.modes k rs
+                (rs : ℕ → List ℕ) → RowsOf (set (record_of run n).registers 0 first) mine lines last k rs
                 → length run.modes ≡ 8192 → modes ≡ with_rows child apart rs k run.modes)
                 (put_order :
                 length run.order ≡ 128 → place ≤ run.left
@@ -330,7 +331,7 @@ module _
                 row_wide : (i : ℕ) → i < k → length (given_row i) ≡ 64
                 row_wide i h = child_length seen.registers seen.modes lines i (given_row i) (given_each i h)
 
-                all_rows : RowsOf (set (record_of run n).registers 0 first) mine lines g.modes k given_row
+                all_rows : RowsOf (set (record_of run n).registers 0 first) mine lines last k given_row
                 all_rows =
                     record {
                       each = λ i h. same_grant s i ∙ given_each i h;
@@ -404,20 +405,20 @@ module _
 
     -- the numbers of the tasks made, and room for them
     pub granted_makes :
-        g.grant ≡ Granted.Granted → (child apart : ℕ)
+        (last : List ℕ) → g ≡ Ok last → (child apart : ℕ)
         → (n < 128 → child ≡ number_by run.tables n (record_of run n).body (record_of run n).pc)
         → apart ≡ get_or run.tables.counts body 1
         → SoundRun run → w < 2 ^ 24 → Placed run n place → decided run step n ≡ planned run n w plan
         → (made_by (decided run step n) ≡ numbers child apart k) × Fit run.left child apart k
-    granted_makes q child apart counted far s light p d =
-        let d' : decided run step n ≡ accept (made_effect q s light) = d ∙ made_planned q s light in
-        (makes q s light p d' child apart counted far, fit q s light p d' child apart counted far)
+    granted_makes last q child apart counted far s light p d =
+        let d' : decided run step n ≡ accept (made_effect last q s light) = d ∙ made_planned last q s light in
+        (makes last q s light p d' child apart counted far, fit last q s light p d' child apart counted far)
 
     pub made_carried :
-        g.grant ≡ Granted.Granted → (child apart : ℕ)
+        (last : List ℕ) → g ≡ Ok last → (child apart : ℕ)
         → (n < 128 → child ≡ number_by run.tables n (record_of run n).body (record_of run n).pc)
         → apart ≡ get_or run.tables.counts body 1 → (modes order : List ℕ)
-        → ((rs : ℕ → List ℕ) → RowsOf (set (record_of run n).registers 0 first) mine lines g.modes k rs
+        → ((rs : ℕ → List ℕ) → RowsOf (set (record_of run n).registers 0 first) mine lines last k rs
         → length run.modes ≡ 8192 → modes ≡ with_rows child apart rs k run.modes)
         → (length run.order ≡ 128 → place ≤ run.left
         → take (run.left + k) order ≡ insert_all place child apart k (take run.left run.order))
@@ -437,15 +438,15 @@ module _
           weights = run.weights;
         })
     unfolding applied
-    made_carried q child apart counted far modes order put_in put_order whole =
+    made_carried last q child apart counted far modes order put_in put_order whole =
         record {
           list = refl;
           weights = refl;
           effect =
               λ s p light e h d.
-              let same : made_effect q s light ≡ e = same_effect (made_effect q s light) e (sym (made_planned q s light) ∙ h) in
-              let d' : decided run step n ≡ accept (made_effect q s light) = d ∙ ap accept (sym same) in (
-                made_model q s light p d' child apart counted far modes order put_in put_order whole ∙ ap (λ x. apply n x (model run)) same,
-                made_whole q s light p d' child apart counted far modes order put_in put_order whole,
+              let same : made_effect last q s light ≡ e = same_effect (made_effect last q s light) e (sym (made_planned last q s light) ∙ h) in
+              let d' : decided run step n ≡ accept (made_effect last q s light) = d ∙ ap accept (sym same) in (
+                made_model last q s light p d' child apart counted far modes order put_in put_order whole ∙ ap (λ x. apply n x (model run)) same,
+                made_whole last q s light p d' child apart counted far modes order put_in put_order whole,
               );
         }

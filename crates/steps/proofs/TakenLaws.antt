@@ -6,16 +6,18 @@ use mathlib.Core.Bool.{false}
 use native.Mathlib.Omega.{arith}
 use lib.ListN.{length}
 use Rattle.semantics.specs.declared.Record.{Record}
-use Rattle.semantics.specs.declared.CallRefusal.{CallRefusal}
-use Rattle.semantics.specs.declared.Answer.TheVariants as Answers
+use Rattle.semantics.specs.declared.Fault.{Fault}
+use Rattle.std.specs.Prelude.{Result, Ok, Err}
 use Rattle.semantics.specs.Plan.{step}
 use Rattle.semantics.specs.Run.{task_of}
 use Rattle.semantics.specs.Effect.{Edit}
-use Rattle.semantics.specs.Call.{refuse, accept, edited, apply}
+use Rattle.semantics.specs.Call.{accept, edited, apply}
 use Rattle.semantics.specs.Sequential.{made_by}
-use Rattle.semantics.specs.Answers.{refusal_number}
+use Rattle.semantics.specs.Answers.{fault_number}
 use Rattle.tables.specs.Children.{numbers}
 use Rattle.records.specs.Records.{passed, failed, holding}
+use Rattle.plans.specs.declared.Stop.{Stop}
+use Rattle.plans.specs.declared.Stop.TheVariants as Stops
 use Rattle.plans.specs.declared.StepPlan.{StepPlan}
 use Rattle.plans.specs.declared.StepPlan.TheVariants as Planned
 use Rattle.plans.specs.View.{Parts, model, SoundRun, Placed, record_of}
@@ -23,38 +25,25 @@ use Rattle.plans.specs.Calls.{decided}
 use Rattle.plans.specs.Steps.{planned}
 use Rattle.looks.specs.Looks.{with_parts}
 use Rattle.changes.specs.declared.Change.{Change}
-use Rattle.changes.specs.Changes.{WholeRun, kept, counted, put, ChangeOf}
+use Rattle.changes.specs.Changes.{WholeRun, counted, put, ChangeOf}
 use Rattle.steps.specs.Stepping.{Carries, with_children, with_made, Makes, Fits}
-use Rattle.changes.proofs.ChangeLaws.{change_refused}
 use Rattle.changes.proofs.CallLaws.{applied}
 use Rattle.steps.proofs.CarryLaws.{holds_back, step_taken, fault_carried, assign_carried, pass_carried, edit_effect, edit_carried}
 
 -- A step: what it leaves, and the tasks that it makes.
 abbrev pub StepOf : Parts → Parts → ℕ → Change → Type 0
-StepOf from next n c = ChangeOf step n from (with_made c (put n c next)) c.answer × (SoundRun from → Makes from n c)
+StepOf from next n c = ChangeOf step n from (λ x. with_made x (put n x next)) (Ok c) × (SoundRun from → Makes from n c)
 
 -- no task is made
-pub none_fits : (c : Change) → c.children ≡ 0 → Fits c
+pub none_fits : (c : Change) → c.block.children ≡ 0 → Fits c
 none_fits c q = record { few = omega (arith, q); near = λ i h. let z : ⊥ = omega (arith, q, h) in absurd z }
 
 module _ (run : Parts) (n : ℕ) (t : Record) (same : record_of run n ≡ t) where
-  pub step_refused :
-      (k : CallRefusal) → (SoundRun run → decided run step n ≡ refuse (refusal_number k)) → (c : Change) → c ≡ kept t run.left k
-      → StepOf run run n c
-  unfolding with_children numbers
-  step_refused k h c e =
-      subst (StepOf run run n) (sym e)
-      (change_refused step run n t k same h (kept t run.left k) refl, λ s. ap made_by (h s))
-
   -- a plan of the task at this place
   module _
-      (place w : ℕ) (light : w < 2 ^ 24) (below : n < 128) (p : StepPlan)
+      (place w : ℕ) (light : w < 2 ^ 24) (below : n < 128) (p : Result StepPlan Stop)
       (there : SoundRun run → Placed run n place × (decided run step n ≡ planned run n w p))
     where
-      pub step_held : (k : CallRefusal) → p ≡ Planned.Held k → (c : Change) → c ≡ kept t run.left k → StepOf run run n c
-      unfolding planned
-      step_held k q c e = step_refused k (λ s. (there s).1 ∙ ap (planned run n w) q) c e
-
       -- a plan that makes no task
       pub step_own :
           (next : Parts) → holds_back p ≡ false → made_by (planned run n w p) ≡ [] → (own : Record)
@@ -68,37 +57,37 @@ module _ (run : Parts) (n : ℕ) (t : Record) (same : record_of run n ≡ t) whe
           )
 
   module _ (place w : ℕ) (light : w < 2 ^ 24) (below : n < 128) where
-    abbrev Decided : StepPlan → Type 0
+    abbrev Decided : Result StepPlan Stop → Type 0
     Decided p = SoundRun run → Placed run n place × (decided run step n ≡ planned run n w p)
 
-    abbrev carried : StepPlan → Parts → (Record → Record) → Record → Type 0
+    abbrev carried : Result StepPlan Stop → Parts → (Record → Record) → Record → Type 0
     carried p next f x = Carries n place w p run (put n (counted (f x) run.left w) next)
 
     pub step_fault :
-        (k : ℕ) → Decided (Planned.Fault k) → (c : Change) → c ≡ counted (failed k t) run.left w → StepOf run run n c
+        (k : Fault) → Decided (Err (Stops.Fault k)) → (c : Change) → c ≡ counted (failed (fault_number k) t) run.left w → StepOf run run n c
     unfolding applied planned
     step_fault k there c e =
-        step_own place w light below (Planned.Fault k) there run refl refl (failed k t)
-        (subst (carried (Planned.Fault k) run (failed k)) same (fault_carried run n place w below k)) c e
+        step_own place w light below (Err (Stops.Fault k)) there run refl refl (failed (fault_number k) t)
+        (subst (carried (Err (Stops.Fault k)) run (failed (fault_number k))) same (fault_carried run n place w below k)) c e
 
     pub step_assign :
-        (a v : ℕ) → Decided (Planned.Assign a v) → (c : Change) → c ≡ counted (holding a v (passed 0 t)) run.left w
+        (a v : ℕ) → Decided (Ok (Planned.Assign a v)) → (c : Change) → c ≡ counted (holding a v (passed 0 t)) run.left w
         → StepOf run run n c
     unfolding applied planned
     step_assign a v there c e =
-        step_own place w light below (Planned.Assign a v) there run refl refl (holding a v (passed 0 t))
-        (subst (carried (Planned.Assign a v) run (λ x. holding a v (passed 0 x))) same (assign_carried run n place w below a v)) c e
+        step_own place w light below (Ok (Planned.Assign a v)) there run refl refl (holding a v (passed 0 t))
+        (subst (carried (Ok (Planned.Assign a v)) run (λ x. holding a v (passed 0 x))) same (assign_carried run n place w below a v)) c e
 
     pub step_pass :
-        (k : ℕ) → k < 256 → Decided (Planned.Pass k) → (c : Change) → c ≡ counted (passed k t) run.left w → StepOf run run n c
+        (k : ℕ) → k < 256 → Decided (Ok (Planned.Pass k)) → (c : Change) → c ≡ counted (passed k t) run.left w → StepOf run run n c
     unfolding applied planned
     step_pass k small there c e =
-        step_own place w light below (Planned.Pass k) there run refl refl (passed k t)
-        (subst (carried (Planned.Pass k) run (passed k)) same (pass_carried run n place w below k small)) c e
+        step_own place w light below (Ok (Planned.Pass k)) there run refl refl (passed k t)
+        (subst (carried (Ok (Planned.Pass k)) run (passed k)) same (pass_carried run n place w below k small)) c e
 
     -- a store or a sum, which leaves the memory m
     pub step_edit :
-        (p : StepPlan) (x : Edit) → planned run n w p ≡ accept (edit_effect w x (task_of (model run) n)) → holds_back p ≡ false
+        (p : Result StepPlan Stop) (x : Edit) → planned run n w p ≡ accept (edit_effect w x (task_of (model run) n)) → holds_back p ≡ false
         → (m : List ℕ) → (length run.memory ≡ 64 → m ≡ edited x run.memory) → Decided p → (c : Change)
         → c ≡ counted (passed 0 t) run.left w
         → StepOf run (with_parts run.tables m run.modes run.order run.left run) n c
@@ -122,12 +111,11 @@ module _ (run : Parts) (n : ℕ) (t : Record) (same : record_of run n ≡ t) whe
 
     -- tasks made, by what is promised of them
     pub step_spawn :
-        (s f first k : ℕ) (next : Parts) (c : Change) → Decided (Planned.Make s f first k) → c.answer ≡ Answers.Accepted
-        → Carries n place w (Planned.Make s f first k) run (with_made c (put n c next))
-        → (SoundRun run → Placed run n place → w < 2 ^ 24 → decided run step n ≡ planned run n w (Planned.Make s f first k) → Makes run n c)
+        (s f first k : ℕ) (next : Parts) (c : Change) → Decided (Ok (Planned.Make s f first k))
+        → Carries n place w (Ok (Planned.Make s f first k)) run (with_made c (put n c next))
+        → (SoundRun run → Placed run n place → w < 2 ^ 24 → decided run step n ≡ planned run n w (Ok (Planned.Make s f first k)) → Makes run n c)
         → StepOf run next n c
-    step_spawn s f first k next c there q h m = (
-      subst (ChangeOf step n run (with_made c (put n c next))) (sym q)
-          (step_taken run n place w (Planned.Make s f first k) (with_made c (put n c next)) refl light there h),
+    step_spawn s f first k next c there h m = (
+      step_taken run n place w (Ok (Planned.Make s f first k)) (with_made c (put n c next)) refl light there h,
       λ g. m g (there g).0 light (there g).1,
     )

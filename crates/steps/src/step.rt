@@ -2,11 +2,11 @@
 ghost use Rattle.steps.specs.Stepping.{SteppedBy};
 
 use crate::spawn::spawned;
-use changes::{Change, changed, unchanged, weight_at};
-use looks::{Located, step_look};
-use plans::{StepPlan, plan_of};
+use changes::{Change, changed, weight_at};
+use looks::step_look;
+use plans::{Standing, StepPlan, Stop, plan_of};
 use records::{code_of, failed, holding, passed, store, sum, units_of};
-use semantics::Record;
+use semantics::{CallRefusal, Record};
 use tasklist::Tables;
 
 // A step: one instruction.
@@ -19,69 +19,48 @@ pub fn step_change(
     own: Record,
     task: u32,
     weights: [u16; 15],
-) -> Change
+) -> Result<Change, CallRefusal>
     ensures { SteppedBy tables memory.old modes.old order.old memory.new modes.new order.new left own task weights result }
 {
-    let body = own.body as usize;
+    let body = usize::from(own.body);
     let size = listing::row_size(tables.bodies, &tables.sizes, 32, body);
-    let found = step_look(order, left, own, size, task);
-    match found {
-        Located::Refused { refusal } => unchanged(own, left, refusal),
-        Located::At { place } => {
-            let pc = own.pc as usize;
-            let cell = tables.cells[32 * body + pc];
-            let instruction = cell.instruction;
-            let code = code_of(instruction);
-            let registers = own.registers;
-            let numbers = *memory;
-            let n = task as usize;
-            let plan = plan_of(
-                order,
-                modes,
-                numbers,
-                registers,
-                n,
-                place,
-                code,
-                instruction,
-            );
-            let count = units_of(instruction);
-            let weight = count * weight_at(weights, code + 2);
-            match plan {
-                StepPlan::Held { refusal } => unchanged(own, left, refusal),
-                StepPlan::Fault { fault } => {
-                    let next = failed(own, fault);
-                    changed(next, left, weight)
-                }
-                StepPlan::Assign { target, value } => {
-                    let next = passed(own, 0);
-                    let next = holding(next, target, value);
-                    changed(next, left, weight)
-                }
-                StepPlan::Pass { over } => {
-                    let next = passed(own, over);
-                    changed(next, left, weight)
-                }
-                StepPlan::Store { location, value } => {
-                    let next = passed(own, 0);
-                    store(memory, location, value);
-                    changed(next, left, weight)
-                }
-                StepPlan::Sum { location, value } => {
-                    let next = passed(own, 0);
-                    sum(memory, location, value);
-                    changed(next, left, weight)
-                }
-                StepPlan::Make {
-                    body: sheet,
-                    footprint,
-                    first,
-                    children,
-                } => spawned(
-                    tables, modes, order, left, own, n, place, sheet, footprint, first, children,
-                    weight,
-                ),
-            }
+    let place = step_look(order, left, own, size, task)?;
+    let cell = tables.cells[32 * body + own.pc as usize];
+    let instruction = cell.instruction;
+    let code = code_of(instruction);
+    let weight = units_of(instruction) * weight_at(weights, code + 2);
+    let task = task as usize;
+    let standing = Standing {
+        order,
+        modes,
+        task,
+        place,
+    };
+    match plan_of(&standing, memory, own.registers, instruction) {
+        Err(Stop::Held(refusal)) => Err(refusal),
+        Err(Stop::Fault(fault)) => Ok(changed(failed(own, u8::from(fault)), left, weight)),
+        Ok(StepPlan::Assign { target, value }) => {
+            let next = holding(passed(own, 0), target, value);
+            Ok(changed(next, left, weight))
         }
+        Ok(StepPlan::Pass { over }) => Ok(changed(passed(own, over), left, weight)),
+        Ok(StepPlan::Store { location, value }) => {
+            store(memory, location, value);
+            Ok(changed(passed(own, 0), left, weight))
+        }
+        Ok(StepPlan::Sum { location, value }) => {
+            sum(memory, location, value);
+            Ok(changed(passed(own, 0), left, weight))
+        }
+        Ok(
+            StepPlan::Make {
+                body: sheet,
+                footprint,
+                first,
+                children,
+            },
+        ) => Ok(spawned(
+            tables, modes, order, left, own, task, place, sheet, footprint, first, children, weight,
+        )),
     }
 }

@@ -15,10 +15,10 @@ use Rattle.semantics.specs.Access.{Access, access_fault}
 use Rattle.semantics.specs.Footprint.{Grant, denied, granted, all_targets, merged, unless_denied, grant, child_modes, none_made, all_made, with_first, children, first_register, fan_of}
 use Rattle.semantics.specs.Call.{splice}
 use Rattle.semantics.specs.Sound.{Distinct}
-use Rattle.grants.specs.declared.Granting.{Granting}
-use Rattle.grants.specs.declared.Grant.{Grant as Answer}
-use Rattle.grants.specs.declared.Grant.TheVariants.{Denied, Granted}
-use Rattle.grants.specs.Grants.{spawner, granted_by, grant_of, child_registers, child_grant, unless_faulted, grants_from}
+use Rattle.std.specs.Prelude.{Some, Result, Ok, Err}
+use Rattle.std.specs.Result.{result_ok}
+use Rattle.semantics.specs.declared.Fault.{Fault}
+use Rattle.grants.specs.Grants.{spawner, grant_of, child_registers, child_grant, unless_faulted, grants_from}
 use Rattle.tables.specs.Children.{seen_by, seen_from, numbers, Fit, RowsOf}
 use Rattle.arrays.specs.Places.{insert_at}
 use Rattle.tables.specs.Children.{insert_all}
@@ -62,15 +62,14 @@ child_length registers own ls i ms q =
     ∙ length-replicate {A = ℕ} 64 0
 
 -- a row that was given
-modes_given : (a : Answer) (modes ms : List ℕ) → granted_by a modes ≡ granted ms → modes ≡ ms
-modes_given (Denied k) modes ms q = let z : ◌≡◌ {A = ℕ} 0 1 = cc in let bad : ⊥ = omega arith in absurd bad
-modes_given Granted modes ms q = ap modes_in q
+modes_given : (a : Result (List ℕ) Fault) (ms : List ℕ) → grant_of a ≡ granted ms → result_ok a ≡ Some ms
+modes_given (Err k) ms q = let z : ◌≡◌ {A = ℕ} 0 1 = cc in let bad : ⊥ = omega arith in absurd bad
+modes_given (Ok modes) ms q = ap (λ g. Some (modes_in g)) q
 
 pub row_given :
-    (registers own : List ℕ) (ls : List Line) (i : ℕ) (seen : List ℕ) → seen ≡ child_registers i registers → (g : Granting)
-    → grant_of g ≡ child_modes (spawner seen own) ls → (ms : List ℕ) → child_grant registers own ls i ≡ granted ms → g.modes ≡ ms
-row_given registers own ls i seen q g h ms e =
-    modes_given g.grant g.modes ms (child_given registers own ls i seen q g h ∙ e)
+    (registers own : List ℕ) (ls : List Line) (i : ℕ) (seen : List ℕ) → seen ≡ child_registers i registers → (g : Result (List ℕ) Fault)
+    → grant_of g ≡ child_modes (spawner seen own) ls → (ms : List ℕ) → child_grant registers own ls i ≡ granted ms → result_ok g ≡ Some ms
+row_given registers own ls i seen q g h ms e = modes_given g ms (child_given registers own ls i seen q g h ∙ e)
 
 -- The children of the model, by what each is given.
 module _ (s : ℕ) (ls : List Line) (t : Task) where
@@ -159,16 +158,7 @@ module _ (s : ℕ) (ls : List Line) (t : Task) where
 -- a spawn's one child, and the children of a fan
 pub seen_alone : (t : Task) → seen_from 0 1 (first_register (get_or t.registers 0 0) t) ≡ t ∷ []
 unfolding seen_from child_registers
-seen_alone t = ap (λ (rs : List ℕ). record {
-  state = t.state;
-  body = t.body;
-  pc = t.pc;
-  registers = rs;
-  modes = t.modes;
-  steps = t.steps;
-  fault = t.fault;
-  weight = t.weight;
-} ∷ []) (set-get_or t.registers 0 0)
+seen_alone t = ap (λ (rs : List ℕ). record t { registers = rs } ∷ []) (set-get_or t.registers 0 0)
 
 pub seen_fan : (i k : ℕ) (t : Task) → seen_from i k (first_register 0 t) ≡ fan_of i k t
 unfolding seen_from fan_of child_registers
@@ -177,16 +167,7 @@ seen_fan i (suc k) t = ap (λ x. x ∷ seen_from (suc i) k (first_register 0 t))
   where
     same : (i : ℕ) → seen_by i (first_register 0 t) ≡ first_register i t
     same zero = refl
-    same (suc i) = ap (λ (rs : List ℕ). record {
-      state = t.state;
-      body = t.body;
-      pc = t.pc;
-      registers = rs;
-      modes = t.modes;
-      steps = t.steps;
-      fault = t.fault;
-      weight = t.weight;
-    }) (set-set t.registers 0 0 (suc i))
+    same (suc i) = ap (λ (rs : List ℕ). record t { registers = rs }) (set-set t.registers 0 0 (suc i))
 
 -- Whether they fit.
 pub fit_all :

@@ -9,17 +9,7 @@ use Rattle.arrays.specs.Rows.{with}
 
 -- a task as child i sees it, by how the foremost sees it
 abbrev pub seen_by : ℕ → Task → Task
-seen_by i t =
-    record {
-      state = t.state;
-      body = t.body;
-      pc = t.pc;
-      registers = child_registers i t.registers;
-      modes = t.modes;
-      steps = t.steps;
-      fault = t.fault;
-      weight = t.weight;
-    }
+seen_by i t = record t { registers = child_registers i t.registers }
 
 -- as k children see it, from child i on
 unfoldable pub seen_from : ℕ → ℕ → Task → List Task

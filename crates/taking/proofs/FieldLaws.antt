@@ -1,156 +1,85 @@
--- Laws of taking fields, in the terms of the code: a position in the bytes, and how many bytes are left there.
-use Prim.Native.Nat.{ℕ, suc, ◌+◌, ◌-◌, ◌≤◌, ◌<◌}
-use mathlib.Core.Path.{◌≡◌, sym, ap, ◌∙◌}
-use mathlib.Core.List.{List, [], ◌∷◌}
-use mathlib.Core.Option.{Option, none, some}
-use native.Mathlib.Omega.{arith}
-use native.Mathlib.Numerals.{add-one}
-use native.Mathlib.Nat.{add_assoc}
-use lib.ListN.{length, take, drop, get_or, length-drop}
-use lib.Seq.{drop-cons, drop-drop}
-use borrow.Author.Tests.{lt-leb, le-leb, lt-ltb, le-ltb, eq-eqb, ne_eqb}
+-- Laws of taking fields from the front of the bytes: a field is cut off, or its own bytes are tested.
+use Rattle.std.proofs.Common.{ℕ, ◌≡◌, ◌-◌, ◌≤◌, ◌<◌, List, length, get_or, take, drop, Bool, true, false, cond, ◌&&◌, eqb, leb, ltb, refl, arith, ◌∙◌}
+use Rattle.std.proofs.lemmas.List.{get_or-take, take_rest}
+use Rattle.std.specs.Prelude.{Option}
+use Rattle.std.proofs.lemmas.Bool.Decides.{nat_tests}
+use borrow.Author.Tests.{lt-leb, le-leb}
+use Rattle.tasklist.specs.declared.Line.{Line}
 use Rattle.tasklist.specs.declared.Scope.{Scope}
-use Rattle.tasklist.specs.declared.Instruction.{Instruction}
-use Rattle.tasklist.specs.Fields.{bad, took, field, is_tag, tag, in_range, number, counted}
+use Rattle.tasklist.specs.Fields.{bad, took, tested, field, only_if, is_tag, tag, in_range, number}
 use Rattle.tasklist.specs.Decode.{line_limit, line_ok, is_line, line, form, instruction_ok, kept, is_instruction, instruction}
 
--- the next bytes from a position on
-bytes_one : (b : List ℕ) (at : ℕ) → 1 ≤ length b - at → take 1 (drop at b) ≡ get_or b at 0 ∷ []
-bytes_one b at h = rw (drop-cons b at 0 (omega arith))
+-- the bytes behind a field of n, as the code has them
+abbrev pub behind : ℕ → List ℕ → List ℕ
+behind n b = take (length b - n) (drop n b)
 
-bytes_more : (n : ℕ) (b : List ℕ) (at : ℕ) → suc n ≤ length b - at → take (suc n) (drop at b) ≡ get_or b at 0 ∷ take n (drop (at + 1) b)
-bytes_more n b at h = rw (drop-cons b at 0 (omega arith), add-one)
+field_short : {A : Type 0} (n k : ℕ) (test : List ℕ → Option A) (b : List ℕ) → length b < n → field n k test b ≡ bad 1
+unfolding field
+field_short n k test b h = rw (lt-leb n (length b) h)
 
-bytes_two : (b : List ℕ) (at : ℕ) → 2 ≤ length b - at → take 2 (drop at b) ≡ get_or b at 0 ∷ get_or b (at + 1) 0 ∷ []
-bytes_two b at h = bytes_more 1 b at h ∙ ap (λ (l : List ℕ). get_or b at 0 ∷ l) (bytes_one b (at + 1) (omega arith))
+field_whole : {A : Type 0} (n k : ℕ) (test : List ℕ → Option A) (b : List ℕ) → n ≤ length b
+    → field n k test b ≡ tested k (behind n b) (test (take n b))
+unfolding field
+field_whole n k test b h = rw (le-leb n (length b) h, take_rest b n)
 
-bytes_four : (b : List ℕ) (at : ℕ) → 4 ≤ length b - at
-    → take 4 (drop at b) ≡ get_or b at 0 ∷ get_or b (at + 1) 0 ∷ get_or b (at + 2) 0 ∷ get_or b (at + 3) 0 ∷ []
-bytes_four b at h =
-    bytes_more 3 b at h ∙
-    ap (λ (l : List ℕ). get_or b at 0 ∷ l)
-    (bytes_more 2 b (at + 1) (omega arith) ∙
-    ap (λ (l : List ℕ). get_or b (at + 1) 0 ∷ l)
-    (ap (λ (p : ℕ). take 2 (drop p b)) (add_assoc at 1 1) ∙
-    bytes_two b (at + 2) (omega arith) ∙
-    ap (λ (p : ℕ). get_or b (at + 2) 0 ∷ get_or b p 0 ∷ []) (add_assoc at 2 1)))
+tested_only : {A : Type 0} (k : ℕ) (rest : List ℕ) (t : Bool) (a : A) → tested k rest (only_if t a) ≡ cond t (took a rest) (bad k)
+tested_only k rest true a = refl
+tested_only k rest false a = refl
 
-module _ {A : Type 0} (n k : ℕ) (test : List ℕ → Option A) (b : List ℕ) (at : ℕ) where
-  pub field_short : length b - at < n → field n k test (drop at b) ≡ bad 1
-  unfolding field
-  field_short h = rw (lt-leb n (length (drop at b)) (omega (arith, length-drop at b)))
-
-  pub field_bad : (f : List ℕ) → n ≤ length b - at → take n (drop at b) ≡ f → test f ≡ none → field n k test (drop at b) ≡ bad k
-  unfolding field
-  field_bad f h e t = rw (le-leb n (length (drop at b)) (omega (arith, length-drop at b)), e, t)
-
-  pub field_took : (f : List ℕ) (a : A) → n ≤ length b - at → take n (drop at b) ≡ f → test f ≡ some a
-      → field n k test (drop at b) ≡ took a (drop (at + n) b)
-  unfolding field
-  field_took f a h e t =
-      rw (le-leb n (length (drop at b)) (omega (arith, length-drop at b)), e, t)
-      (ap (took a) (drop-drop n at b))
-
--- Marks
-module _ (second : ℕ) (b : List ℕ) (at : ℕ) where
-  abbrev tag_bytes : List ℕ
-  tag_bytes = get_or b at 0 ∷ get_or b (at + 1) 0 ∷ []
-
-  pub tag_short : length b - at < 2 → tag second (drop at b) ≡ bad 1
+module _ (b : List ℕ) where
+  pub tag_short : (second : ℕ) → length b < 2 → tag second b ≡ bad 1
   unfolding tag
-  tag_short h = field_short 2 2 (is_tag second) b at h
+  tag_short second h = field_short 2 2 (is_tag second) b h
 
-  pub tag_first : 2 ≤ length b - at → (get_or b at 0 ≡ 0x4A → ⊥) → tag second (drop at b) ≡ bad 2
+  pub tag_whole : (second : ℕ) → 2 ≤ length b
+      → tag second b ≡ cond (eqb (get_or b 0 0) 0x4A && eqb (get_or b 1 0) second) (took tt (behind 2 b)) (bad 2)
   unfolding tag is_tag
-  tag_first w h = field_bad 2 2 (is_tag second) b at tag_bytes w (bytes_two b at w) (rw (ne_eqb (get_or b at 0) 0x4A h))
+  tag_whole second h =
+      field_whole 2 2 (is_tag second) b h ∙
+      (rw (get_or-take 2 b 0 0 (omega arith), get_or-take 2 b 1 0 (omega arith)) (tested_only 2 (behind 2 b) _ tt))
 
-  pub tag_second : 2 ≤ length b - at → get_or b at 0 ≡ 0x4A → (get_or b (at + 1) 0 ≡ second → ⊥) → tag second (drop at b) ≡ bad 2
-  unfolding tag is_tag
-  tag_second w h k =
-      field_bad 2 2 (is_tag second) b at tag_bytes w (bytes_two b at w)
-      (rw (eq-eqb (get_or b at 0) 0x4A h, ne_eqb (get_or b (at + 1) 0) second k))
-
-  pub tag_took : 2 ≤ length b - at → get_or b at 0 ≡ 0x4A → get_or b (at + 1) 0 ≡ second → tag second (drop at b) ≡ took tt (drop (at + 2) b)
-  unfolding tag is_tag
-  tag_took w h k =
-      field_took 2 2 (is_tag second) b at tag_bytes tt w (bytes_two b at w)
-      (rw (eq-eqb (get_or b at 0) 0x4A h, eq-eqb (get_or b (at + 1) 0) second k))
-
--- Numbers
-module _ (low high k : ℕ) (b : List ℕ) (at : ℕ) where
-  pub number_short : length b - at < 1 → number low high k (drop at b) ≡ bad 1
+  pub number_short : (low high k : ℕ) → length b < 1 → number low high k b ≡ bad 1
   unfolding number
-  number_short h = field_short 1 k (in_range low high) b at h
+  number_short low high k h = field_short 1 k (in_range low high) b h
 
-  pub number_low : 1 ≤ length b - at → get_or b at 0 < low → number low high k (drop at b) ≡ bad k
+  pub number_whole : (low high k : ℕ) → 1 ≤ length b
+      → number low high k b ≡ cond (leb low (get_or b 0 0) && leb (get_or b 0 0) high) (took (get_or b 0 0) (behind 1 b)) (bad k)
   unfolding number in_range
-  number_low w h =
-      field_bad 1 k (in_range low high) b at (get_or b at 0 ∷ []) w (bytes_one b at w) (rw (lt-leb low (get_or b at 0) h))
+  number_whole low high k h =
+      field_whole 1 k (in_range low high) b h ∙
+      (rw (get_or-take 1 b 0 0 (omega arith)) (tested_only k (behind 1 b) _ (get_or b 0 0)))
 
-  pub number_high : 1 ≤ length b - at → low ≤ get_or b at 0 → high < get_or b at 0 → number low high k (drop at b) ≡ bad k
-  unfolding number in_range
-  number_high w h i =
-      field_bad 1 k (in_range low high) b at (get_or b at 0 ∷ []) w (bytes_one b at w)
-      (rw (le-leb low (get_or b at 0) h, lt-leb (get_or b at 0) high i))
-
-  pub number_took : 1 ≤ length b - at → low ≤ get_or b at 0 → get_or b at 0 ≤ high
-      → number low high k (drop at b) ≡ took (get_or b at 0) (drop (at + 1) b)
-  unfolding number in_range
-  number_took w h i =
-      field_took 1 k (in_range low high) b at (get_or b at 0 ∷ []) (get_or b at 0) w (bytes_one b at w)
-      (rw (le-leb low (get_or b at 0) h, le-leb (get_or b at 0) high i))
-
--- Lines
-module _ (locations : ℕ) (b : List ℕ) (at : ℕ) where
-  pub line_short : length b - at < 2 → line locations (drop at b) ≡ bad 1
+  pub line_short : (locations : ℕ) → length b < 2 → line locations b ≡ bad 1
   unfolding line
-  line_short h = field_short 2 4 (is_line locations) b at h
+  line_short locations h = field_short 2 4 (is_line locations) b h
 
-  pub line_bad : 2 ≤ length b - at → line_limit locations (get_or b at 0) ≤ get_or b (at + 1) 0 → line locations (drop at b) ≡ bad 4
+  abbrev line_there : Line
+  line_there = record { kind = get_or b 0 0; value = get_or b 1 0 }
+
+  pub line_whole : (locations : ℕ) → 2 ≤ length b
+      → line locations b ≡ cond (ltb (get_or b 1 0) (line_limit locations (get_or b 0 0))) (took line_there (behind 2 b)) (bad 4)
   unfolding line is_line line_ok
-  line_bad w h =
-      field_bad 2 4 (is_line locations) b at (get_or b at 0 ∷ get_or b (at + 1) 0 ∷ []) w (bytes_two b at w)
-      (rw (le-ltb (get_or b (at + 1) 0) (line_limit locations (get_or b at 0)) h))
+  line_whole locations h =
+      field_whole 2 4 (is_line locations) b h ∙
+      (rw (get_or-take 2 b 0 0 (omega arith), get_or-take 2 b 1 0 (omega arith)) (tested_only 4 (behind 2 b) _ line_there))
 
-  pub line_took : 2 ≤ length b - at → get_or b (at + 1) 0 < line_limit locations (get_or b at 0)
-      → line locations (drop at b) ≡ took (record { kind = get_or b at 0; value = get_or b (at + 1) 0 }) (drop (at + 2) b)
-  unfolding line is_line line_ok
-  line_took w h =
-      field_took 2 4 (is_line locations) b at (get_or b at 0 ∷ get_or b (at + 1) 0 ∷ [])
-      (record { kind = get_or b at 0; value = get_or b (at + 1) 0 }) w (bytes_two b at w)
-      (rw (lt-ltb (get_or b (at + 1) 0) (line_limit locations (get_or b at 0)) h))
-
--- Instructions
-module _ (scope : Scope) (b : List ℕ) (at : ℕ) where
-  abbrev instruction_bytes : List ℕ
-  instruction_bytes = get_or b at 0 ∷ get_or b (at + 1) 0 ∷ get_or b (at + 2) 0 ∷ get_or b (at + 3) 0 ∷ []
-
-  abbrev pub form_at : Option Instruction
-  form_at = form (get_or b at 0) (get_or b (at + 1) 0) (get_or b (at + 2) 0) (get_or b (at + 3) 0)
-
-  pub instruction_short : length b - at < 4 → instruction scope (drop at b) ≡ bad 1
+  pub instruction_short : (scope : Scope) → length b < 4 → instruction scope b ≡ bad 1
   unfolding instruction
-  instruction_short h = field_short 4 5 (is_instruction scope) b at h
+  instruction_short scope h = field_short 4 5 (is_instruction scope) b h
 
-  pub instruction_bad : 4 ≤ length b - at → kept (instruction_ok scope) form_at ≡ none → instruction scope (drop at b) ≡ bad 5
+  pub instruction_whole : (scope : Scope) → 4 ≤ length b
+      → instruction scope b
+      ≡ tested 5 (behind 4 b) (kept (instruction_ok scope) (form (get_or b 0 0) (get_or b 1 0) (get_or b 2 0) (get_or b 3 0)))
   unfolding instruction is_instruction
-  instruction_bad w h = field_bad 4 5 (is_instruction scope) b at instruction_bytes w (bytes_four b at w) h
+  instruction_whole scope h =
+      field_whole 4 5 (is_instruction scope) b h ∙
+      (rw (
+        get_or-take 4 b 0 0 (omega arith),
+        get_or-take 4 b 1 0 (omega arith),
+        get_or-take 4 b 2 0 (omega arith),
+        get_or-take 4 b 3 0 (omega arith),
+      ))
 
-  pub instruction_took : (x : Instruction) → 4 ≤ length b - at → kept (instruction_ok scope) form_at ≡ some x
-      → instruction scope (drop at b) ≡ took x (drop (at + 4) b)
-  unfolding instruction is_instruction
-  instruction_took x w h = field_took 4 5 (is_instruction scope) b at instruction_bytes x w (bytes_four b at w) h
-
--- what a callee's view of its answer is, once the answer's case is known
-pub told : {A B : Type 0} (view : A → B) {r s : A} {x : B} → view r ≡ x → r ≡ s → x ≡ view s
-told view p q = sym p ∙ ap view q
-
--- A mark and a count
-module _ (second most k : ℕ) (b : List ℕ) where
-  pub counted_bad : (j : ℕ) → tag second b ≡ bad j → counted second most k b ≡ bad j
-  unfolding counted
-  counted_bad j e = rw e
-
-  pub counted_tagged : (u : Unit {0}) (rest : List ℕ) → tag second b ≡ took u rest → counted second most k b ≡ number 0 most k rest
-  unfolding counted
-  counted_tagged u rest e = rw e
+-- what a field at the front of the bytes is, by their number and its test
+pub ruleset fields =
+    (tag_short, tag_whole, number_short, number_whole, line_short, line_whole, instruction_short, instruction_whole, nat_tests)

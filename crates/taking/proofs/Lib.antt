@@ -1,3 +1,2 @@
--- Laws of taking fields and instructions, in the terms of the code.
+-- Laws of taken fields, and of the instructions' forms.
 pub mod FieldLaws
-pub mod InstructionLaws

@@ -1,2 +1,2 @@
 -- What a reader must believe of taken fields.
-pub mod Positions
+pub mod Fronts

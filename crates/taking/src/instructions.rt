@@ -1,211 +1,114 @@
-// Instructions at a position of the bytes: their form, their test, and taking one.
-ghost use Rattle.std.specs.Prelude.{◌≡◌, ◌&&◌, leb, eqb, ◌+◌, drop};
-ghost use Rattle.tasklist.specs.Fields.{only_if};
+// Instructions at the front of the bytes: their form, their test, and taking one.
+ghost use Rattle.std.specs.Prelude.{◌≡◌, ◌&&◌, leb, ◌+◌};
 ghost use Rattle.tasklist.specs.Decode.{form, register, spawn_ok, instruction_ok, kept, instruction};
-ghost use Rattle.taking.specs.Positions.{formed, instruction_taken};
+ghost use Rattle.taking.specs.Fronts.{taken};
 
-use crate::fields::left;
-use crate::{Form, InstructionTaken};
 use tasklist::{Instruction, Refusal, Scope};
 
-// An instruction, where it passes its test.
-fn if_passed(ok: bool, instruction: Instruction) -> Form
-    ensures { formed result ≡ only_if ok instruction }
-{
-    if ok {
-        Form::Known(instruction)
-    } else {
-        Form::Unknown
-    }
-}
-
-// An instruction whose last byte is 0, where it passes its test.
-fn if_zero(byte: u8, ok: bool, instruction: Instruction) -> Form
-    ensures { formed result ≡ only_if (eqb byte 0 && ok) instruction }
-{
-    if byte == 0 {
-        if_passed(ok, instruction)
-    } else {
-        Form::Unknown
-    }
-}
-
 // Whether three numbers are registers.
+#[tactic(auto, using(std::proofs::lemmas::Bool::Decides::nat_tests), unfolding(tasklist::specs::Decode::register))]
 fn registers(a: u8, b: u8, c: u8) -> bool
     ensures { result ≡ (register a && register b && register c) }
 {
-    if a < 4 {
-        if b < 4 { c < 4 } else { false }
-    } else {
-        false
-    }
+    a < 4 && b < 4 && c < 4
 }
 
 // Whether a spawn or fan names a higher body and a footprint of the list.
-fn spawns(at: Scope, body: usize, footprint: usize) -> bool
+#[tactic(auto, using(std::proofs::lemmas::Bool::Decides::nat_tests), unfolding(tasklist::specs::Decode::spawn_ok))]
+fn spawns(at: Scope, body: u8, footprint: u8) -> bool
     ensures { result ≡ spawn_ok at body footprint }
 {
-    if at.body < body {
-        if body < at.bodies {
-            footprint < at.footprints
-        } else {
-            false
-        }
-    } else {
-        false
-    }
+    let body = usize::from(body);
+    at.body < body && body < at.bodies && usize::from(footprint) < at.footprints
 }
 
 // Whether a fan names a higher body and a footprint of the list, and has 1 to 16 children.
-fn fans(at: Scope, body: usize, footprint: usize, children: u8) -> bool
+#[tactic(auto, using(std::proofs::lemmas::Bool::Decides::nat_tests))]
+fn fans(at: Scope, body: u8, footprint: u8, children: u8) -> bool
     ensures { result ≡ (spawn_ok at body footprint && leb 1 children && leb children 16) }
 {
-    if spawns(at, body, footprint) {
-        if 1 <= children { children <= 16 } else { false }
-    } else {
-        false
-    }
+    spawns(at, body, footprint) && (1..=16).contains(&children)
 }
 
 // Whether a skip tests a register and ends within its body.
-fn skips(at: Scope, test: u8, length: usize) -> bool
+#[tactic(auto, using(std::proofs::lemmas::Bool::Decides::nat_tests), unfolding(tasklist::specs::Decode::register))]
+fn skips(at: Scope, test: u8, length: u8) -> bool
     ensures { result ≡ (register test && leb (at.place + 1 + length) at.size) }
 {
-    if test < 4 {
-        if at.place < at.size {
-            length <= at.size - at.place - 1
-        } else {
-            false
-        }
-    } else {
-        false
-    }
+    test < 4 && at.place < at.size && usize::from(length) <= at.size - at.place - 1
 }
 
 // The instruction that a code and its three bytes say, where it passes its test in its place: by the code, form and test in
 // one match.
-fn instruction_in(at: Scope, code: u8, a: u8, b: u8, c: u8) -> Form
-    ensures { formed result ≡ kept (instruction_ok at) (form code a b c) }
+#[tactic(auto, using(std::proofs::lemmas::Bool::Decides::nat_tests), unfolding(tasklist::specs::Decode::form, tasklist::specs::Decode::forms, tasklist::specs::Decode::instruction_ok, tasklist::specs::Decode::register))]
+fn instruction_in(at: Scope, code: u8, a: u8, b: u8, c: u8) -> Option<Instruction>
+    ensures { result ≡ kept (instruction_ok at) (form code a b c) }
 {
     match code {
-        0 => if_passed(
-            registers(a, 0, 0),
-            Instruction::Const {
-                target: a,
-                value: (b as u16) + 256 * (c as u16),
-            },
-        ),
-        1 => if_passed(
-            registers(a, b, c),
-            Instruction::Add {
-                target: a,
-                left: b,
-                right: c,
-            },
-        ),
-        2 => if_passed(
-            registers(a, b, c),
-            Instruction::Sub {
-                target: a,
-                left: b,
-                right: c,
-            },
-        ),
-        3 => if_passed(
-            registers(a, b, c),
-            Instruction::Less {
-                target: a,
-                left: b,
-                right: c,
-            },
-        ),
-        4 => if_zero(
-            c,
-            registers(a, b, 0),
-            Instruction::Load {
-                target: a,
-                place: b,
-            },
-        ),
-        5 => if_zero(
-            c,
-            registers(a, b, 0),
-            Instruction::Store {
-                place: a,
-                source: b,
-            },
-        ),
-        6 => if_zero(
-            c,
-            skips(at, a, b as usize),
-            Instruction::Skip { test: a, length: b },
-        ),
-        7 => if_zero(
-            c,
-            spawns(at, a as usize, b as usize),
-            Instruction::Spawn {
-                body: a,
-                footprint: b,
-            },
-        ),
-        8 => {
-            if b == 0 {
-                if_zero(c, registers(a, 0, 0), Instruction::Wait { place: a })
-            } else {
-                Form::Unknown
-            }
-        }
-        9 => if_passed(
-            fans(at, a as usize, b as usize, c),
-            Instruction::Fan {
-                body: a,
-                footprint: b,
-                children: c,
-            },
-        ),
-        10 => if_zero(
-            c,
-            registers(a, b, 0),
-            Instruction::Sum {
-                place: a,
-                source: b,
-            },
-        ),
-        11 => if_passed(
-            registers(a, b, c),
-            Instruction::Mul {
-                target: a,
-                left: b,
-                right: c,
-            },
-        ),
-        12 => if_passed(
-            registers(a, b, c),
-            Instruction::Div {
-                target: a,
-                left: b,
-                right: c,
-            },
-        ),
-        _ => Form::Unknown,
+        0 => (a < 4).then_some(Instruction::Const {
+            target: a,
+            value: u16::from_le_bytes([b, c]),
+        }),
+        1 => registers(a, b, c).then_some(Instruction::Add {
+            target: a,
+            left: b,
+            right: c,
+        }),
+        2 => registers(a, b, c).then_some(Instruction::Sub {
+            target: a,
+            left: b,
+            right: c,
+        }),
+        3 => registers(a, b, c).then_some(Instruction::Less {
+            target: a,
+            left: b,
+            right: c,
+        }),
+        4 => (a < 4 && b < 4 && c == 0).then_some(Instruction::Load {
+            target: a,
+            place: b,
+        }),
+        5 => (a < 4 && b < 4 && c == 0).then_some(Instruction::Store {
+            place: a,
+            source: b,
+        }),
+        6 => (skips(at, a, b) && c == 0).then_some(Instruction::Skip { test: a, length: b }),
+        7 => (spawns(at, a, b) && c == 0).then_some(Instruction::Spawn {
+            body: a,
+            footprint: b,
+        }),
+        8 => (a < 4 && b == 0 && c == 0).then_some(Instruction::Wait { place: a }),
+        9 => fans(at, a, b, c).then_some(Instruction::Fan {
+            body: a,
+            footprint: b,
+            children: c,
+        }),
+        10 => (a < 4 && b < 4 && c == 0).then_some(Instruction::Sum {
+            place: a,
+            source: b,
+        }),
+        11 => registers(a, b, c).then_some(Instruction::Mul {
+            target: a,
+            left: b,
+            right: c,
+        }),
+        12 => registers(a, b, c).then_some(Instruction::Div {
+            target: a,
+            left: b,
+            right: c,
+        }),
+        _ => None,
     }
 }
 
 // An instruction of a body.
-pub fn take_instruction(bytes: &[u8], at: usize, scope: Scope) -> InstructionTaken
-    ensures { instruction_taken result bytes.now ≡ instruction scope (drop at bytes.now) }
+#[tactic(auto, using(crate::proofs::FieldLaws::fields))]
+pub fn take_instruction(bytes: &[u8], scope: Scope) -> Result<(Instruction, &[u8]), Refusal>
+    ensures { taken result ≡ instruction scope bytes.now }
 {
-    if left(bytes, at) < 4 {
-        return InstructionTaken::Bad(Refusal::Incomplete);
-    }
-    match instruction_in(
-        scope,
-        bytes[at],
-        bytes[at + 1],
-        bytes[at + 2],
-        bytes[at + 3],
-    ) {
-        Form::Unknown => InstructionTaken::Bad(Refusal::Body),
-        Form::Known(x) => InstructionTaken::Took(x, at + 4),
-    }
+    let [code, a, b, c, rest @ ..] = bytes else {
+        return Err(Refusal::Incomplete);
+    };
+    let instruction = instruction_in(scope, *code, *a, *b, *c).ok_or(Refusal::Body)?;
+    Ok((instruction, rest))
 }

@@ -3,7 +3,7 @@ use Prim.Native.Nat.{ℕ, suc, ◌+◌, ◌*◌, ◌/◌, ◌%◌, ◌≤◌, �
 use mathlib.Core.Path.{◌≡◌, refl, sym, ap, ◌∙◌, subst}
 use mathlib.Core.List.{List, [], ◌∷◌, ◌++◌, append-nil, append_assoc}
 use mathlib.Core.Bool.{Bool, true}
-use mathlib.Core.Option.{Option, some}
+use Rattle.std.specs.Prelude.{Option, Some}
 use native.Mathlib.Omega.{arith}
 use native.Mathlib.Nat.{add-zero, zero-add}
 use lib.ListN.{length, get_or, length-append}
@@ -29,7 +29,7 @@ abbrev Reads : {A : Type 0} → (A → List ℕ) → (List ℕ → Taken A) → 
 Reads write p a = (rest : List ℕ) → p (write a ++ rest) ≡ took a rest
 
 field_reads : {A : Type 0} (write : A → List ℕ) (n k : ℕ) (test : List ℕ → Option A) (a : A)
-    → length (write a) ≡ n → test (write a) ≡ some a → Reads write (field n k test) a
+    → length (write a) ≡ n → test (write a) ≡ Some a → Reads write (field n k test) a
 unfolding field
 field_reads write n k test a size passes rest =
     let whole : n ≤ length (write a ++ rest) = omega (arith, length-append (write a) rest) in
@@ -67,11 +67,11 @@ const_value (Div a b c) = 0
 form_of_fields : List ℕ → Option Instruction
 form_of_fields f = form (get_or f 0 0) (get_or f 1 0) (get_or f 2 0) (get_or f 3 0)
 
-form_reads : (x : Instruction) → const_value x < 65536 → form_of_fields (instruction_fields x) ≡ some x
+form_reads : (x : Instruction) → const_value x < 65536 → form_of_fields (instruction_fields x) ≡ Some x
 unfolding form_of_fields form forms instruction_fields const_value
 form_reads (Const a v) h =
     let q : v % 256 + 256 * (v / 256 % 256) ≡ v = omega arith in
-    ap (λ (w : ℕ). some (Const a w)) q
+    ap (λ (w : ℕ). Some (Const a w)) q
 form_reads (Add a b c) h = refl
 form_reads (Sub a b c) h = refl
 form_reads (Less a b c) h = refl

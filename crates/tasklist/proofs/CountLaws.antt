@@ -85,9 +85,6 @@ total_capped f (x ∷ xs) h =
     omega (arith, adds_small f x (omega arith), total_capped f xs (omega arith))
 
 -- a product of two bytes
-pub product : {a b c d : ℕ} → a ≡ b → c ≡ d → a * c ≡ b * d
-product p q = λ i. p i * q i
-
 pub product_small : (a b : ℕ) → a < 256 → b < 256 → a * b < 65536
 product_small a b h k =
     let few : a ≤ 255 = omega arith in
@@ -202,3 +199,10 @@ module _ (bs : List (List Instruction)) where
   known_whole table k s =
       let q : s - 0 ≡ s = omega arith in
       k s ∙ ap capped (rw (le-leb 0 s (omega arith), q) refl)
+
+-- any instruction but a spawn and a fan adds nothing
+pub adds_nothing : (f : ℕ → ℕ) (x : Instruction) → ((a b : ℕ) → x ≡ Spawn a b → ⊥) → ((a b c : ℕ) → x ≡ Fan a b c → ⊥) → adds f x ≡ 0
+unfolding adds
+adds_nothing f (Spawn a b) p q = absurd (p a b refl)
+adds_nothing f (Fan a b c) p q = absurd (q a b c refl)
+adds_nothing f _ p q = refl

@@ -3,7 +3,7 @@ use Prim.Native.Nat.{ℕ, zero, suc, ◌+◌, ◌-◌, ◌*◌, ◌≤◌, ◌<�
 use mathlib.Core.Path.{◌≡◌, refl, sym, ap, ◌∙◌}
 use mathlib.Core.List.{List, [], ◌∷◌}
 use mathlib.Core.Bool.{Bool, true, false, ◌&&◌}
-use mathlib.Core.Option.{Option, none, some}
+use Rattle.std.specs.Prelude.{Option, Some, None}
 use native.Mathlib.Omega.{arith}
 use native.Mathlib.Nat.{add-zero, zero-add}
 use lib.ListN.{length, take, drop, get_or, get_or-eq_default}
@@ -34,14 +34,14 @@ line_passed locations x t =
     ap (line_ok locations) (sym p.value) ∙ p.test
 
 pub record Kept (A : Type 0) (ok : A → Bool) (o : Option A) (x : A) : Type 0 where
-  pub formed : o ≡ some x
+  pub formed : o ≡ Some x
   pub test : ok x ≡ true
 
-pub kept_some : {A : Type 0} (ok : A → Bool) (o : Option A) (x : A) → kept ok o ≡ some x → Kept A ok o x
-kept_some ok none x e = let z : ◌≡◌ {A = ℕ} 0 1 = cc in let y : ⊥ = omega arith in absurd y
-kept_some ok (some a) x e =
+pub kept_some : {A : Type 0} (ok : A → Bool) (o : Option A) (x : A) → kept ok o ≡ Some x → Kept A ok o x
+kept_some ok None x e = let z : ◌≡◌ {A = ℕ} 0 1 = cc in let y : ⊥ = omega arith in absurd y
+kept_some ok (Some a) x e =
     let p = only_if_some (ok a) a x e in
-    record { formed = ap some p.value; test = ap ok (sym p.value) ∙ p.test }
+    record { formed = ap Some p.value; test = ap ok (sym p.value) ∙ p.test }
 
 instruction_passed : (at : Scope) (x : Instruction) → TakenAt Instruction (instruction at) x → instruction_ok at x ≡ true
 unfolding instruction is_instruction

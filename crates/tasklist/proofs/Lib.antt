@@ -11,3 +11,4 @@ pub mod RoundTrip
 pub mod Longest
 pub mod Complete
 pub mod RefusalLaws
+pub mod AnswerLaws

@@ -5,10 +5,10 @@ use mathlib.Core.List.{List, [], ◌∷◌, map}
 use native.Mathlib.Omega.{arith}
 use native.Mathlib.Decide.{dec_lt}
 use native.Mathlib.Nat.{mul-zero, mul-suc}
-use lib.ListN.{length, take, drop, get_or, length-drop, length-take, length-map, get_or-map, get_or-eq_default}
+use lib.ListN.{length, take, drop, get_or, length-drop, length-take, get_or-eq_default}
+use Rattle.std.proofs.lemmas.List.{take-map, drop-map}
 use lib.Seq.{drop-drop, get_or-take, get_or-drop, length-take-le}
 use Rattle.tasklist.specs.declared.Tables.{Tables}
-use Rattle.tasklist.specs.TaskList.{body_of, footprint_of}
 use Rattle.tasklist.specs.Tables.{rows, instructions, list_of}
 
 -- within a list the default does not matter
@@ -34,14 +34,14 @@ rows_at w (n ∷ ns) xs (suc s) =
     rows_at w ns (drop w xs) s ∙
     ap (take (min (get_or ns s 0) w)) (drop-drop (w * s) w xs ∙ ap (λ (m : ℕ). drop m xs) q)
 
--- the length of an array of structs
-pub length_lowered : {X Y : Type 0} (f : X → Y) (l : List X) (n : ℕ) → length (map f l) ≡ n → length l ≡ n
-length_lowered f l n e = sym (length-map l f) ∙ e
-
--- an element of a table of structs
-pub getD_held : {C A : Type 0} (f : C → A) (cells : List C) (k : ℕ) (d : C) (e : A) → k < length cells → get_or (map f cells) k e ≡ f (get_or cells k d)
-getD_held f cells k d e h =
-    get_d_default (map f cells) k e (f d) (omega (arith, length-map cells f)) ∙ get_or-map f cells k d
+-- the places of a row, where the table's elements hold the items
+pub rows_items : {C A : Type 0} (f : C → A) (w : ℕ) (ns : List ℕ) (cells : List C) (s n : ℕ) → n ≡ min (get_or ns s 0) w
+    → get_or (rows w ns (map f cells)) s [] ≡ map f (take n (drop (w * s) cells))
+rows_items f w ns cells s n e =
+    rows_at w ns (map f cells) s ∙
+    ap (λ (k : ℕ). take k (drop (w * s) (map f cells))) (sym e) ∙
+    ap (take n) (drop-map f (w * s) cells) ∙
+    take-map f n (drop (w * s) cells)
 
 -- a table of 32 rows, w places apart, of which `used` stand for something
 module _ {A : Type 0} (w used : ℕ) (sizes : List ℕ) (xs : List A) where
@@ -102,18 +102,16 @@ module _ {A : Type 0} (w used : ℕ) (sizes : List ℕ) (xs : List A) where
           let z : ⊥ = omega arith in
           absurd z
 
-pub footprint_most : (t : Tables) (f : ℕ) → length (footprint_of (list_of t) f) ≤ 8
-unfolding list_of footprint_of
-footprint_most t f = row_most 8 t.footprints t.widths t.lines f
+pub footprint_count_is : (t : Tables) → length t.widths ≡ 32 → length (list_of t).footprints ≡ min t.footprints 32
+unfolding list_of
+footprint_count_is t h = rows_count 8 t.footprints t.widths t.lines h
 
-pub body_most : (t : Tables) (s : ℕ) → length (body_of (list_of t) s) ≤ 32
-unfolding list_of body_of
-body_most t s = row_most 32 t.bodies t.sizes (instructions t.cells) s
+pub body_count_is : (t : Tables) → length t.sizes ≡ 32 → length (list_of t).bodies ≡ min t.bodies 32
+unfolding list_of
+body_count_is t h = rows_count 32 t.bodies t.sizes (instructions t.cells) h
 
 pub footprints_few : (t : Tables) → length t.widths ≡ 32 → length (list_of t).footprints ≤ 32
-unfolding list_of
-footprints_few t h = omega (arith, rows_count 8 t.footprints t.widths t.lines h)
+footprints_few t h = omega (arith, footprint_count_is t h)
 
 pub bodies_few : (t : Tables) → length t.sizes ≡ 32 → length (list_of t).bodies ≤ 32
-unfolding list_of
-bodies_few t h = omega (arith, rows_count 32 t.bodies t.sizes (instructions t.cells) h)
+bodies_few t h = omega (arith, body_count_is t h)

@@ -3,7 +3,7 @@ use Prim.Native.Nat.{ℕ, zero, suc, ◌≤◌}
 use mathlib.Core.Path.{◌≡◌, sym, subst, ◌∙◌}
 use mathlib.Core.List.{List, [], ◌∷◌, ◌++◌}
 use mathlib.Core.Bool.{Bool, true, false, cond}
-use mathlib.Core.Option.{Option, none, some}
+use Rattle.std.specs.Prelude.{Option, Some, None}
 use native.Mathlib.Omega.{arith}
 use lib.ListN.{length, take, drop}
 use lib.Dec.{leb}
@@ -33,8 +33,8 @@ unfolding field
 of_field {A = A} n k test b h = by_size (leb n (length b))
   where
     by_test : (o : Option A) → Numbered (tested k (drop n b) o)
-    by_test none = h
-    by_test (some a) = tt
+    by_test None = h
+    by_test (Some a) = tt
 
     by_size : (t : Bool) → Numbered (cond t (tested k (drop n b) (test (take n b))) (bad 1))
     by_size true = by_test (test (take n b))

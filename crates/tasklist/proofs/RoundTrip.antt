@@ -4,7 +4,7 @@ use Prim.Native.Nat.{ℕ, zero, suc, ◌+◌, ◌*◌, ◌/◌, ◌%◌, ◌<◌
 use mathlib.Core.Path.{◌≡◌, refl, sym, ap, ◌∙◌}
 use mathlib.Core.List.{List, [], ◌∷◌, ◌++◌, append-nil, append_assoc}
 use mathlib.Core.Bool.{◌&&◌}
-use mathlib.Core.Option.{Option, some}
+use Rattle.std.specs.Prelude.{Option, Some}
 use native.Mathlib.Omega.{arith}
 use lib.ListN.{length, take, drop, get_or, take-append-drop, drop_of_length-le}
 use lib.Seq.{length-take-le, drop-cons, get_or-append-add}
@@ -51,7 +51,7 @@ spread_drop (suc n) i f e =
 
 -- a field is exact if its test is
 field_exact : {A : Type 0} (write : A → List ℕ) (n k : ℕ) (test : List ℕ → Option A)
-    → ((f : List ℕ) (a : A) → Bytes f → test f ≡ some a → spread 0 n f ≡ write a) → Exact write (field n k test)
+    → ((f : List ℕ) (a : A) → Bytes f → test f ≡ Some a → spread 0 n f ≡ write a) → Exact write (field n k test)
 field_exact write n k test exact b a rest bytes e =
     let t = field_taken n k test b a rest e in
     let f = take n b in
@@ -65,7 +65,7 @@ tag_exact : (second : ℕ) → Exact (λ _. 0x4A ∷ second ∷ []) (tag second)
 unfolding tag is_tag
 tag_exact second = field_exact (λ _. 0x4A ∷ second ∷ []) 2 2 (is_tag second) exact
   where
-    exact : (f : List ℕ) (u : Unit {0}) → Bytes f → is_tag second f ≡ some u → spread 0 2 f ≡ 0x4A ∷ second ∷ []
+    exact : (f : List ℕ) (u : Unit {0}) → Bytes f → is_tag second f ≡ Some u → spread 0 2 f ≡ 0x4A ∷ second ∷ []
     exact f u bytes e =
         let p = only_if_some (eqb (get_or f 0 0) 0x4A && eqb (get_or f 1 0) second) tt u e in
         let q = both_true (eqb (get_or f 0 0) 0x4A) (eqb (get_or f 1 0) second) p.test in
@@ -77,7 +77,7 @@ number_exact : (low high k : ℕ) → Exact (λ n. n ∷ []) (number low high k)
 unfolding number in_range
 number_exact low high k = field_exact (λ n. n ∷ []) 1 k (in_range low high) exact
   where
-    exact : (f : List ℕ) (n : ℕ) → Bytes f → in_range low high f ≡ some n → spread 0 1 f ≡ n ∷ []
+    exact : (f : List ℕ) (n : ℕ) → Bytes f → in_range low high f ≡ Some n → spread 0 1 f ≡ n ∷ []
     exact f n bytes e =
         let x = get_or f 0 0 in
         let p = only_if_some (leb low x && leb x high) x n e in
@@ -87,7 +87,7 @@ line_exact : (locations : ℕ) → Exact line_fields (line locations)
 unfolding line is_line line_fields
 line_exact locations = field_exact line_fields 2 4 (is_line locations) exact
   where
-    exact : (f : List ℕ) (x : Line) → Bytes f → is_line locations f ≡ some x → spread 0 2 f ≡ line_fields x
+    exact : (f : List ℕ) (x : Line) → Bytes f → is_line locations f ≡ Some x → spread 0 2 f ≡ line_fields x
     exact f x bytes e =
         let read : Line = record { kind = get_or f 0 0; value = get_or f 1 0 } in
         let p = only_if_some (line_ok locations read) read x e in
@@ -95,17 +95,17 @@ line_exact locations = field_exact line_fields 2 4 (is_line locations) exact
 
 -- the thirteen forms: the fields that are listed, and 0 for those that are not
 module _ (code a b c : ℕ) (y x : Instruction) where
-  plain_form : code ∷ a ∷ b ∷ c ∷ [] ≡ instruction_fields y → some y ≡ some x → code ∷ a ∷ b ∷ c ∷ [] ≡ instruction_fields x
+  plain_form : code ∷ a ∷ b ∷ c ∷ [] ≡ instruction_fields y → Some y ≡ Some x → code ∷ a ∷ b ∷ c ∷ [] ≡ instruction_fields x
   plain_form same e =
       let q : y ≡ x = cc in
       same ∙ ap instruction_fields q
 
-  zero_form : code ∷ a ∷ b ∷ 0 ∷ [] ≡ instruction_fields y → only_if (eqb c 0) y ≡ some x → code ∷ a ∷ b ∷ c ∷ [] ≡ instruction_fields x
+  zero_form : code ∷ a ∷ b ∷ 0 ∷ [] ≡ instruction_fields y → only_if (eqb c 0) y ≡ Some x → code ∷ a ∷ b ∷ c ∷ [] ≡ instruction_fields x
   zero_form same e =
       let p = only_if_some (eqb c 0) y x e in
       ap (λ (z : ℕ). code ∷ a ∷ b ∷ z ∷ []) (eqb-true c 0 p.test) ∙ same ∙ ap instruction_fields p.value
 
-form_exact : (code a b c : ℕ) (x : Instruction) → b < 256 → c < 256 → form code a b c ≡ some x → code ∷ a ∷ b ∷ c ∷ [] ≡ instruction_fields x
+form_exact : (code a b c : ℕ) (x : Instruction) → b < 256 → c < 256 → form code a b c ≡ Some x → code ∷ a ∷ b ∷ c ∷ [] ≡ instruction_fields x
 unfolding form forms instruction_fields
 form_exact zero a b c x hb hc e =
     let low : b ≡ (b + 256 * c) % 256 = omega arith in
@@ -136,7 +136,7 @@ instruction_exact : (at : Scope) → Exact instruction_fields (instruction at)
 unfolding instruction is_instruction
 instruction_exact at = field_exact instruction_fields 4 5 (is_instruction at) exact
   where
-    exact : (f : List ℕ) (x : Instruction) → Bytes f → is_instruction at f ≡ some x → spread 0 4 f ≡ instruction_fields x
+    exact : (f : List ℕ) (x : Instruction) → Bytes f → is_instruction at f ≡ Some x → spread 0 4 f ≡ instruction_fields x
     exact f x bytes e =
         let o = form (get_or f 0 0) (get_or f 1 0) (get_or f 2 0) (get_or f 3 0) in
         form_exact (get_or f 0 0) (get_or f 1 0) (get_or f 2 0) (get_or f 3 0) x (bytes 2) (bytes 3) (kept_some (instruction_ok at) o x e).formed

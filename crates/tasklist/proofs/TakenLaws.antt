@@ -3,7 +3,7 @@ use Prim.Native.Nat.{ℕ, ◌≤◌}
 use mathlib.Core.Path.{◌≡◌, refl, ◌∙◌}
 use mathlib.Core.List.{List}
 use mathlib.Core.Bool.{Bool, true, false, cond, ◌&&◌}
-use mathlib.Core.Option.{Option, none, some}
+use Rattle.std.specs.Prelude.{Option, Some, None}
 use native.Mathlib.Omega.{arith}
 use lib.ListN.{length, take, drop, get_or}
 use lib.Dec.{leb}
@@ -21,14 +21,14 @@ pub record Passed (A : Type 0) (t : Bool) (a x : A) : Type 0 where
   pub test : t ≡ true
   pub value : a ≡ x
 
-pub only_if_some : {A : Type 0} (t : Bool) (a x : A) → only_if t a ≡ some x → Passed A t a x
+pub only_if_some : {A : Type 0} (t : Bool) (a x : A) → only_if t a ≡ Some x → Passed A t a x
 only_if_some true a x e = record { test = refl; value = cc }
 only_if_some false a x e = let z : ◌≡◌ {A = ℕ} 0 1 = cc in let y : ⊥ = omega arith in absurd y
 
 -- a taken field: its n bytes were there, its test gave what was taken, and the rest stands behind
 pub record FieldTaken (A : Type 0) (n : ℕ) (test : List ℕ → Option A) (b : List ℕ) (a : A) (rest : List ℕ) : Type 0 where
   pub whole : n ≤ length b
-  pub passed : test (take n b) ≡ some a
+  pub passed : test (take n b) ≡ Some a
   pub behind : drop n b ≡ rest
 
 pub field_taken : {A : Type 0} (n k : ℕ) (test : List ℕ → Option A) (b : List ℕ) (a : A) (rest : List ℕ)
@@ -37,8 +37,8 @@ unfolding field
 field_taken {A} n k test b a rest e = by_length (leb n (length b)) refl e
   where
     by_test : n ≤ length b → (o : Option A) → test (take n b) ≡ o → tested k (drop n b) o ≡ took a rest → FieldTaken A n test b a rest
-    by_test w none q f = absurd_bad k a rest f
-    by_test w (some x) q f = record { whole = w; passed = q ∙ cc; behind = cc }
+    by_test w None q f = absurd_bad k a rest f
+    by_test w (Some x) q f = record { whole = w; passed = q ∙ cc; behind = cc }
 
     by_length : (t : Bool) → leb n (length b) ≡ t → cond t (tested k (drop n b) (test (take n b))) (bad 1) ≡ took a rest → FieldTaken A n test b a rest
     by_length true q f = by_test (leb-true n (length b) q) (test (take n b)) refl f

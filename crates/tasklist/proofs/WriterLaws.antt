@@ -1,5 +1,5 @@
 -- Laws of the writer's loops: what is still to be put, for lines, instructions, footprints and bodies alike.
-use Prim.Native.Nat.{ℕ, suc, ◌+◌, ◌*◌, ◌%◌, ◌≤◌, ◌<◌}
+use Prim.Native.Nat.{ℕ, suc, ◌+◌, ◌*◌, ◌≤◌, ◌<◌}
 use mathlib.Core.Path.{◌≡◌, refl, sym, ap, ◌∙◌}
 use mathlib.Core.List.{List, [], ◌∷◌, ◌++◌}
 use native.Mathlib.Omega.{arith}
@@ -114,10 +114,6 @@ footprint_length ls = omega (arith, joined_length line_fields 2 line_length ls)
 pub body_length : (is : List Instruction) → length (body_bytes is) ≡ 3 + 4 * length is
 unfolding body_bytes
 body_length is = omega (arith, joined_length instruction_fields 4 instruction_length is)
-
--- a count as a byte
-pub count_byte : (n m : ℕ) → n ≡ m → m ≤ 32 → n % 256 ≡ m
-count_byte n m e h = omega arith
 
 -- The whole list
 module _ (l : TaskList) where

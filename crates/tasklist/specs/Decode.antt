@@ -1,6 +1,5 @@
 -- Reading a job list: document 01, "Job lists" and the refusals of check.
-use Rattle.std.specs.Prelude.{ℕ, ◌+◌, ◌*◌, List, [], ◌∷◌, Bool, true, false, cond, ◌&&◌, get_or, leb, ltb, eqb}
-use Rattle.std.proofs.Math.Option.{Option, none, some}
+use Rattle.std.specs.Prelude.{ℕ, ◌+◌, ◌*◌, List, [], ◌∷◌, Bool, cond, ◌&&◌, get_or, leb, ltb, eqb, Option, Some, None}
 use Rattle.tasklist.specs.declared.Instruction.{Instruction}
 use Rattle.tasklist.specs.declared.Instruction.TheVariants.{Const, Add, Sub, Less, Load, Store, Skip, Spawn, Wait, Fan, Sum, Mul, Div}
 use Rattle.tasklist.specs.declared.Line.{Line}
@@ -47,15 +46,15 @@ footprint locations = row 0x46 8 4 (λ _ _. line locations)
 -- the thirteen forms in the order of their codes, each with its own fields: "fields not listed are 0"
 unfoldable pub forms : ℕ → ℕ → ℕ → List (Option Instruction)
 forms a b c =
-    some (Const a (b + 256 * c)) ∷ some (Add a b c) ∷ some (Sub a b c) ∷ some (Less a b c) ∷
+    Some (Const a (b + 256 * c)) ∷ Some (Add a b c) ∷ Some (Sub a b c) ∷ Some (Less a b c) ∷
     only_if (eqb c 0) (Load a b) ∷ only_if (eqb c 0) (Store a b) ∷ only_if (eqb c 0) (Skip a b) ∷
     only_if (eqb c 0) (Spawn a b) ∷ only_if (eqb b 0 && eqb c 0) (Wait a) ∷
-    some (Fan a b c) ∷ only_if (eqb c 0) (Sum a b) ∷ some (Mul a b c) ∷ some (Div a b c) ∷ []
+    Some (Fan a b c) ∷ only_if (eqb c 0) (Sum a b) ∷ Some (Mul a b c) ∷ Some (Div a b c) ∷ []
 
 -- "Another code .. is a bad instruction"
 unfoldable pub form : ℕ → ℕ → ℕ → ℕ → Option Instruction
 unfolding forms
-form code a b c = get_or (forms a b c) code none
+form code a b c = get_or (forms a b c) code None
 
 -- "a register above 3, is a bad instruction"
 unfoldable pub register : ℕ → Bool
@@ -82,8 +81,8 @@ instruction_ok at (Mul a b c) = register a && register b && register c
 instruction_ok at (Div a b c) = register a && register b && register c
 
 abbrev pub kept : {A : Type 0} → (A → Bool) → Option A → Option A
-kept ok none = none
-kept ok (some a) = only_if (ok a) a
+kept ok None = None
+kept ok (Some a) = only_if (ok a) a
 
 unfoldable pub is_instruction : Scope → List ℕ → Option Instruction
 is_instruction at f = kept (instruction_ok at) (form (get_or f 0 0) (get_or f 1 0) (get_or f 2 0) (get_or f 3 0))

@@ -1,6 +1,5 @@
 -- Taking fields from the front of the bytes.
-use Rattle.std.specs.Prelude.{ℕ, zero, suc, List, [], ◌∷◌, ◌++◌, Bool, cond, ◌&&◌, length, take, drop, get_or, leb, eqb}
-use Rattle.std.proofs.Math.Option.{Option, none, some}
+use Rattle.std.specs.Prelude.{ℕ, zero, suc, List, [], ◌∷◌, ◌++◌, Bool, cond, ◌&&◌, length, take, drop, get_or, leb, eqb, Option, Some, None}
 
 -- A refusal's number, or what was taken and the bytes behind it
 pub data Taken (A : Type 0) : Type 0 where
@@ -13,8 +12,8 @@ and_then (bad k) next = bad k
 and_then (took a rest) next = next a rest
 
 abbrev pub tested : {A : Type 0} → ℕ → List ℕ → Option A → Taken A
-tested k rest none = bad k
-tested k rest (some a) = took a rest
+tested k rest None = bad k
+tested k rest (Some a) = took a rest
 
 -- "a field (mark, number, line, instruction) is taken only when whole, else 1; it is tested when taken": a field of
 -- n bytes, whose test gives what it holds or, where it fails, the refusal k
@@ -22,7 +21,7 @@ unfoldable pub field : {A : Type 0} → ℕ → ℕ → (List ℕ → Option A) 
 field n k test b = cond (leb n (length b)) (tested k (drop n b) (test (take n b))) (bad 1)
 
 abbrev pub only_if : {A : Type 0} → Bool → A → Option A
-only_if t a = cond t (some a) none
+only_if t a = cond t (Some a) None
 
 -- a mark, 4A and a second byte: "2 wrong mark"
 unfoldable pub is_tag : ℕ → List ℕ → Option (Unit {0})

@@ -1,7 +1,6 @@
 -- What the tables of the code stand for.
-use Rattle.std.specs.Prelude.{ℕ, ◌+◌, min, ◌≡◌, List, [], ◌∷◌, map, length, take, drop, get_or, replicate}
+use Rattle.std.specs.Prelude.{ℕ, min, ◌≡◌, List, [], ◌∷◌, map, take, drop, get_or, replicate}
 use Rattle.tasklist.specs.declared.Instruction.{Instruction}
-use Rattle.tasklist.specs.declared.Line.{Line}
 use Rattle.tasklist.specs.declared.Cell.{Cell}
 use Rattle.tasklist.specs.declared.Tables.{Tables}
 use Rattle.tasklist.specs.TaskList.{TaskList, task_count, blank_instruction}

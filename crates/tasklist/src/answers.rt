@@ -1,4 +1,4 @@
-// The numbers of the refusals, and the tables of a refused list.
+// The numbers of the refusals, and blank tables.
 ghost use Rattle.std.specs.Prelude.{◌≡◌};
 ghost use Rattle.tasklist.specs.Tables.{blank_tables};
 ghost use Rattle.tasklist.specs.Answers.{refusal_number};
@@ -6,21 +6,24 @@ ghost use Rattle.tasklist.specs.Answers.{refusal_number};
 use crate::{Cell, Instruction, Line, Refusal, Tables};
 
 // Document 01's number of a refusal.
-pub fn refusal_number(refusal: Refusal) -> u8
-    ensures { result ≡ refusal_number refusal }
-{
-    match refusal {
-        Refusal::Incomplete => 1,
-        Refusal::Tag => 2,
-        Refusal::Head => 3,
-        Refusal::Footprint => 4,
-        Refusal::Body => 5,
-        Refusal::Leftover => 6,
-        Refusal::Tasks => 7,
+impl From<Refusal> for u8 {
+    ghost from_gives = { λ refusal r. r ≡ refusal_number refusal };
+
+    fn from(refusal: Refusal) -> u8 {
+        match refusal {
+            Refusal::Incomplete => 1,
+            Refusal::Tag => 2,
+            Refusal::Head => 3,
+            Refusal::Footprint => 4,
+            Refusal::Body => 5,
+            Refusal::Leftover => 6,
+            Refusal::Tasks => 7,
+        }
     }
 }
 
-// The tables of a refused list.
+// Blank tables: no location, no footprint, no body.
+#[tactic(auto, unfolding(crate::specs::Tables::blank_tables))]
 pub fn blank() -> Tables
     ensures { result ≡ blank_tables }
 {

@@ -79,6 +79,7 @@ pub enum Instruction {
 
 // One line of a footprint: kind 0 reads and 1 writes location `value`; 2 reads and 3 writes the location whose
 // number is in register `value`; request 107: 4 sums location `value`, 5 the one named by register `value`.
+// Kept: the kind is a number, since tables may hold any byte there, and a narrower type would ask more of callers.
 #[derive(Clone, Copy)]
 pub struct Line {
     pub kind: u8,
@@ -104,6 +105,7 @@ pub struct Scope {
 
 // A job list in tables. Footprint f has `widths[f]` lines, from `lines[8 * f]` on; body s has `sizes[s]`
 // instructions, from `cells[32 * s]` on; `counts[s]` is document 01's count(s), 129 standing for all above 128.
+// Kept: arrays with counts beside them, since a list is kept in fixed memory, as large as the longest list.
 #[derive(Clone, Copy)]
 pub struct Tables {
     pub locations: u8,
@@ -117,7 +119,7 @@ pub struct Tables {
 }
 
 // Why a list is refused: document 01's numbers 1 to 7, in this order.
-#[derive(Clone, Copy)]
+#[derive(Clone, Copy, Debug, PartialEq, Eq)]
 pub enum Refusal {
     // 1: the bytes end within a field.
     Incomplete,
@@ -135,29 +137,9 @@ pub enum Refusal {
     Tasks,
 }
 
-// What check answers.
-#[derive(Clone, Copy)]
-pub enum Checked {
-    // Accepted: document 01's count(0).
-    Count(u8),
-    Refused(Refusal),
-}
-
-// What reading gives: check's answer, and the tables of the list, blank ones where it is refused.
-#[derive(Clone, Copy)]
-pub struct Reading {
-    pub answer: Checked,
-    pub tables: Tables,
-}
-
-// What the writer answers.
-#[derive(Clone, Copy)]
-pub enum Written {
-    // How many places it wrote.
-    Places(usize),
-    // 17: the lent slice is too short; nothing was written.
-    Short,
-}
+// 17: the lent slice is too short; nothing was written.
+#[derive(Clone, Copy, Debug, PartialEq, Eq)]
+pub struct Short;
 
 // The head's numbers.
 #[derive(Clone, Copy)]
@@ -170,5 +152,5 @@ pub struct Header {
 mod answers;
 mod counts;
 
-pub use answers::{blank, refusal_number};
-pub use counts::{added, clamped, count_at, task_counts};
+pub use answers::blank;
+pub use counts::{added, task_counts};

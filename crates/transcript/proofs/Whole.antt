@@ -1,9 +1,8 @@
 -- THE LAW OF THE COORDINATOR: however the input is cut into pieces of at most 511 bytes, feeding them one after the other, then the line of half
 -- a call and the closing lines, prints exactly the transcript of the whole input. Assumes nothing.
-use Prim.Native.Nat.{ℕ, zero, suc, ◌+◌, ◌*◌, ◌/◌, ◌≤◌}
+use Prim.Native.Nat.{ℕ, ◌+◌, ◌*◌, ◌/◌, ◌≤◌}
 use mathlib.Core.Path.{◌≡◌, refl, sym, ap, subst, ◌∙◌}
 use mathlib.Core.List.{List, [], ◌∷◌, ◌++◌, append-nil, append_assoc}
-use native.Mathlib.Omega.{arith}
 use lib.ListN.{length, take, drop}
 use lib.Seq.{take_at, take-length}
 use Rattle.tasklist.specs.TaskList.{TaskList}
@@ -18,7 +17,7 @@ use Rattle.semantics.specs.Call.{after_all}
 use Rattle.semantics.specs.Operations.{Asked, with_list, open_asked}
 use Rattle.semantics.proofs.Asked.{AskedCase, denied, given as opens, asked_case}
 use Rattle.runtime.specs.declared.Run.{Run}
-use Rattle.runtime.specs.declared.Opened.{Opened}
+use Rattle.runtime.specs.declared.OpenRefusal.{OpenRefusal}
 use Rattle.runtime.specs.View.{model, context_of, SoundRun}
 use Rattle.runtime.specs.Asked.{open_number, Unopened, Running, OpenedAs}
 use Rattle.runtime.specs.Calls.{calls_of_kind}
@@ -26,10 +25,9 @@ use Rattle.runtime.proofs.ViewLaws.{same_context}
 use Rattle.runtime.proofs.MadeLaws.{after_append}
 use Rattle.lent.specs.Lines.{calls_in, lines}
 use Rattle.lent.specs.Lines as Called
-use Rattle.wording.specs.declared.Pending.{Pending}
-use Rattle.wording.specs.declared.Pending.TheVariants.{Nothing, Kind}
+use Rattle.std.specs.Prelude.{Option, Some, None, Result, Ok, Err, IsOkAnd}
 use Rattle.wording.specs.Wording.{line, closing, refused_line, printed}
-use Rattle.wording.specs.Promises.{given, Wrote, open_bytes, half_bytes}
+use Rattle.wording.specs.Promises.{given, Wrote, half_bytes}
 use Rattle.wording.proofs.ClosingLaws.{with_room}
 use Rattle.transcript.specs.declared.Fed.{Fed}
 use Rattle.transcript.specs.Transcript.{lines_from, transcript}
@@ -46,7 +44,7 @@ pub record Printed (room : ℕ) (bytes shown : List ℕ) : Type 0 where
   pub shown_is : shown ≡ take count after
 
 -- a piece was fed to a run, and the lines that it wrote were printed
-pub record Turn (run : Run) (p : Pending) (piece : List ℕ) (f : Fed) (shown : List ℕ) : Type 0 where
+pub record Turn (run : Run) (p : Option ℕ) (piece : List ℕ) (f : Fed) (shown : List ℕ) : Type 0 where
   pub before : List ℕ
   pub after : List ℕ
   pub fed : FedAs run p piece before after f
@@ -55,7 +53,7 @@ pub record Turn (run : Run) (p : Pending) (piece : List ℕ) (f : Fed) (shown : 
   pub shown_is : shown ≡ take f.wrote after
 
 -- The program's loop from a run and a pending byte on: a turn for each piece, then half_line and closing_lines.
-abbrev pub Session : Run → Pending → List (List ℕ) → List ℕ → Type 0
+abbrev pub Session : Run → Option ℕ → List (List ℕ) → List ℕ → Type 0
 Session run p [] shown =
     (half : List ℕ) × (last : List ℕ) × Printed 3 (half_bytes p) half × Printed 737 (closing (model run)) last × (shown ≡ half ++ last)
 Session run p (piece ∷ pieces) shown =
@@ -63,9 +61,9 @@ Session run p (piece ∷ pieces) shown =
     × (shown ≡ now_shown ++ later)
 
 -- The program behind open: the line of a failed open, "Else" the loop on the fresh run.
-abbrev pub Coordinated : ℕ → Opened → List (List ℕ) → List ℕ → Type 0
-Coordinated zero o pieces shown = Session o.run Nothing pieces shown
-Coordinated (suc k) o pieces shown = Printed 11 (open_bytes (suc k)) shown
+abbrev pub Coordinated : Result Run OpenRefusal → List (List ℕ) → List ℕ → Type 0
+Coordinated (Ok run) pieces shown = Session run None pieces shown
+Coordinated (Err k) pieces shown = Printed 11 (refused_line (open_number k)) shown
 
 -- the whole input
 abbrev pub all_of : List (List ℕ) → List ℕ
@@ -114,14 +112,14 @@ lines_split c r (kind ∷ n ∷ a) b =
     ∙ sym (append_assoc first (whole_lines c after a) (lines_from c (whole_run c after a) (half_of a ++ b)))
     ∙ ap (λ x. first ++ whole_lines c after a ++ lines_from c x (half_of a ++ b)) (sym (after_append c r (calls_of_kind kind n) (calls_in a)))
 
-lines_end : (c : Context) (r : Semantics.Run) (p : Pending) → lines_from c r (pending_bytes p ++ []) ≡ half_bytes p ++ closing r
+lines_end : (c : Context) (r : Semantics.Run) (p : Option ℕ) → lines_from c r (pending_bytes p ++ []) ≡ half_bytes p ++ closing r
 unfolding lines_from pending_bytes half_bytes lines calls_in joined after_all
-lines_end c r Nothing = refl
-lines_end c r (Kind k) = ap (λ l. l ++ closing r) (append-nil (line 18))
+lines_end c r None = refl
+lines_end c r (Some k) = ap (λ l. l ++ closing r) (append-nil (line 18))
 
 -- from a run and a pending byte on
 pub session_lines :
-    (pieces : List (List ℕ)) (run : Run) (p : Pending) (shown : List ℕ) → SoundRun run → Session run p pieces shown
+    (pieces : List (List ℕ)) (run : Run) (p : Option ℕ) (shown : List ℕ) → SoundRun run → Session run p pieces shown
     → shown ≡ lines_from (context_of run) (model run) (pending_bytes p ++ all_of pieces)
 unfolding joined
 session_lines [] run p shown s (half, last, h, l, e) =
@@ -148,10 +146,9 @@ session_lines (piece ∷ pieces) run p shown s (f, now_shown, later, t, rest, e)
 
 -- The law
 pub prints_the_transcript :
-    (jobs library : List ℕ) (o : Opened) → OpenedAs jobs fixed_weights (open_asked jobs (memory_of library) fixed_weights) o
-    → (pieces : List (List ℕ)) (shown : List ℕ) → Coordinated (open_number o.answer) o pieces shown
-    → shown ≡ transcript jobs library (all_of pieces)
-unfolding open_asked transcript printed open_bytes pending_bytes
+    (jobs library : List ℕ) (o : Result Run OpenRefusal) → OpenedAs jobs fixed_weights (open_asked jobs (memory_of library) fixed_weights) o
+    → (pieces : List (List ℕ)) (shown : List ℕ) → Coordinated o pieces shown → shown ≡ transcript jobs library (all_of pieces)
+unfolding open_asked transcript printed pending_bytes
 prints_the_transcript jobs library o h pieces shown t = by_case (asked_case jobs memory fixed_weights)
   where
     memory : List ℕ
@@ -163,26 +160,26 @@ prints_the_transcript jobs library o h pieces shown t = by_case (asked_case jobs
     lines : Context → List ℕ
     lines c = lines_from c (initial c memory) input
 
-    refusal : (k : ℕ) → 1 ≤ k → Unopened k o → shown ≡ refused_line k
-    refusal zero some u = let z : ⊥ = omega arith in absurd z
-    refusal (suc k) some u =
-        printed_is 11 (open_bytes (suc k)) shown (subst (λ n. Coordinated n o pieces shown) u.answer t)
+    refusal : (k : ℕ) (r : Result Run OpenRefusal) → Coordinated r pieces shown → Unopened k r → shown ≡ refused_line k
+    refusal k (Ok run) p u = absurd u
+    refusal k (Err e) p u = printed_is 11 (refused_line (open_number e)) shown p ∙ ap refused_line u
 
     running :
-        (l : TaskList) → decode jobs ≡ accepted l → Running jobs fixed_weights (initial (context l fixed_weights) memory) o
-        → shown ≡ lines (context l fixed_weights)
-    running l q r =
-        let same : list_of o.run.tables ≡ l = accepted_same (list_of o.run.tables) l (sym r.list ∙ q) in
-        let under : context_of o.run ≡ context l fixed_weights = λ i. context (same i) (r.table i) in
-        session_lines pieces o.run Nothing shown r.sound (subst (λ n. Coordinated n o pieces shown) r.answer t)
-        ∙ ap (λ m. lines_from (context_of o.run) m (pending_bytes Nothing ++ input)) r.run
-        ∙ ap (λ c. lines_from c (initial (context l fixed_weights) memory) (pending_bytes Nothing ++ input)) under
+        (l : TaskList) → decode jobs ≡ accepted l → (r : Result Run OpenRefusal) → Coordinated r pieces shown
+        → IsOkAnd r (Running jobs fixed_weights (initial (context l fixed_weights) memory)) → shown ≡ lines (context l fixed_weights)
+    running l q (Err e) p r = absurd r
+    running l q (Ok run) p r =
+        let same : list_of run.tables ≡ l = accepted_same (list_of run.tables) l (sym r.list ∙ q) in
+        let under : context_of run ≡ context l fixed_weights = λ i. context (same i) (r.table i) in
+        session_lines pieces run None shown r.sound p
+        ∙ ap (λ m. lines_from (context_of run) m (pending_bytes None ++ input)) r.run
+        ∙ ap (λ c. lines_from c (initial (context l fixed_weights) memory) (pending_bytes None ++ input)) under
 
     opened : Asked Semantics.Run → Type 0
     opened a = OpenedAs jobs fixed_weights a o
 
     by_case : AskedCase jobs memory fixed_weights → shown ≡ printed (with_list (decode jobs) memory fixed_weights lines)
     by_case (denied k some e) =
-        refusal k some (subst opened (e Semantics.Run (λ c. initial c memory)) h) ∙ ap printed (sym (e (List ℕ) lines))
+        refusal k o t (subst opened (e Semantics.Run (λ c. initial c memory)) h) ∙ ap printed (sym (e (List ℕ) lines))
     by_case (opens l q fits ok e) =
-        running l q (subst opened (e Semantics.Run (λ c. initial c memory)) h) ∙ ap printed (sym (e (List ℕ) lines))
+        running l q o t (subst opened (e Semantics.Run (λ c. initial c memory)) h) ∙ ap printed (sym (e (List ℕ) lines))

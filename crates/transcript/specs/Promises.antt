@@ -1,15 +1,12 @@
 -- What the functions promise: what a piece of the input comes to.
-use Rattle.std.specs.Prelude.{ℕ, ◌+◌, ◌*◌, ◌/◌, ◌≤◌, ◌≡◌, List, [], ◌∷◌, ◌++◌, Bool, cond, ◌||◌, length, take, drop, ltb}
+use Rattle.std.specs.Prelude.{ℕ, ◌+◌, ◌*◌, ◌/◌, ◌≤◌, ◌≡◌, List, [], ◌∷◌, ◌++◌, Bool, cond, ◌||◌, length, take, drop, ltb, Option, Some, None}
 use Rattle.tasklist.specs.Encode.{joined}
 use Rattle.runtime.specs.declared.Run.{Run}
 use Rattle.runtime.specs.View.{model, context_of, SoundRun}
 use Rattle.runtime.specs.Calls.{CallsMade}
 use Rattle.lent.specs.Lines.{calls_in, lines}
-use Rattle.wording.specs.declared.Pending.{Pending}
-use Rattle.wording.specs.declared.Pending.TheVariants.{Nothing, Kind}
 use Rattle.wording.specs.Wording.{line}
 use Rattle.wording.specs.Promises.{Wrote}
-use Rattle.transcript.specs.declared.Joined.{Joined}
 use Rattle.transcript.specs.declared.Fed.{Fed}
 
 -- The calls that are whole in these bytes, and the byte left over, if there is one.
@@ -24,16 +21,9 @@ half_of (kind ∷ []) = kind ∷ []
 half_of (kind ∷ n ∷ input) = half_of input
 
 -- the byte that waits, as bytes
-unfoldable pub pending_bytes : Pending → List ℕ
-pending_bytes Nothing = []
-pending_bytes (Kind k) = k ∷ []
-
--- these bytes stand at the front of an array
-pub record JoinedAs (bytes : List ℕ) (r : Joined) : Type 0 where
-  pub count : r.count ≡ length bytes
-  pub places : take r.count r.bytes ≡ bytes
-  pub most : r.count ≤ 512
-  pub long : length r.bytes ≡ 512
+unfoldable pub pending_bytes : Option ℕ → List ℕ
+pending_bytes None = []
+pending_bytes (Some k) = k ∷ []
 
 -- a piece of more than 511 bytes, or not 4 places for each call that could be in it
 unfoldable pub exceeds : ℕ → ℕ → Bool
@@ -56,6 +46,6 @@ pub record FedWith (from : Run) (bytes before after : List ℕ) (r : Fed) : Type
   pub whole : r.wrote ≡ length (take r.wrote after)
 
 -- a piece of the input behind the byte that waited
-pub record FedAs (from : Run) (pending : Pending) (piece before after : List ℕ) (r : Fed) : Type 0 where
+pub record FedAs (from : Run) (pending : Option ℕ) (piece before after : List ℕ) (r : Fed) : Type 0 where
   pub used : r.used ≡ used_of piece before
   pub fed : FedWith from (pending_bytes pending ++ take r.used piece) before after r

@@ -3,21 +3,13 @@
 #![tactic(auto)]
 
 use runtime::Run;
-use wording::Pending;
-
-// The pending byte and a piece of input behind it: so many bytes at the front.
-#[derive(Clone, Copy)]
-pub struct Joined {
-    pub bytes: [u8; 512],
-    pub count: usize,
-}
 
 // A piece of input that was taken: the run after its calls, the byte that waits for the next piece, how many of its bytes
 // were used, and how many bytes were written.
 #[derive(Clone, Copy)]
 pub struct Fed {
     pub run: Run,
-    pub pending: Pending,
+    pub pending: Option<u8>,
     pub used: usize,
     pub wrote: usize,
 }

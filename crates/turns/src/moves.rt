@@ -2,22 +2,22 @@
 ghost use Rattle.std.specs.Prelude.{◌≡◌};
 ghost use Rattle.turns.specs.Moves.{next_kind, NextCalled, MovedAs};
 
-use crate::{MoveAnswer, Moved};
+use crate::{Kind, MoveRefusal, Moved};
 use runtime::{Called, Run};
-use semantics::{Answer, Record};
+use semantics::Record;
 
-// Which call is the next one of a task with this record, whose body has so many instructions: 0 its start while it waits, then 1
-// its steps, at its end 2 its end.
-pub fn next_kind(own: Record, size: usize) -> u8
+// Which call is the next one of a task with this record, whose body has so many instructions: its start while it waits, then
+// its steps, at its end its end.
+pub fn next_kind(own: Record, size: usize) -> Kind
     ensures { result ≡ next_kind size own }
 {
     if own.state == 1 {
-        return 0;
+        Kind::Start
+    } else if looks::at_end(own, size) {
+        Kind::End
+    } else {
+        Kind::Step
     }
-    if looks::at_end(own, size) {
-        return 2;
-    }
-    1
 }
 
 // The next call of a task.
@@ -29,16 +29,12 @@ fn next_call(run: Run, task: u32) -> Called
         return run.start(task);
     }
     let own = run.records[task as usize];
-    let tables = run.tables;
-    let size = listing::body_size(tables, own.body as usize);
-    let kind = next_kind(own, size);
-    if kind == 0 {
-        return run.start(task);
+    let size = run.body_size(own);
+    match next_kind(own, size) {
+        Kind::Start => run.start(task),
+        Kind::Step => run.step(task),
+        Kind::End => run.end(task),
     }
-    if kind == 1 {
-        return run.step(task);
-    }
-    run.end(task)
 }
 
 // The first side's move: 25 no task is left.
@@ -47,22 +43,14 @@ pub fn foremost_move(run: Run) -> Moved
 {
     if run.left == 0 {
         return Moved {
-            answer: MoveAnswer::NoneLeft,
+            answer: Err(MoveRefusal::NoneLeft),
             run,
         };
     }
     let foremost = run.order[0];
-    let done = next_call(run, foremost as u32);
-    let next = done.run;
-    let answer = done.answer;
-    match answer {
-        Answer::Accepted => Moved {
-            answer: MoveAnswer::Made,
-            run: next,
-        },
-        Answer::Refused { refusal } => Moved {
-            answer: MoveAnswer::Refused { refusal },
-            run,
-        },
+    let done = next_call(run, u32::from(foremost));
+    Moved {
+        answer: done.answer.map_err(MoveRefusal::Call),
+        run: done.run,
     }
 }

@@ -1,20 +1,17 @@
 -- Laws of what is written at the front of a lent slice, and of the closing lines. Assumes nothing.
-use Prim.Native.Nat.{ℕ, ◌+◌, ◌*◌, ◌^◌, ◌≤◌, ◌<◌, zero-le, min}
-use mathlib.Core.Path.{◌≡◌, refl, sym, ap, subst, ◌∙◌}
-use mathlib.Core.List.{List, [], ◌∷◌, ◌++◌, append_assoc}
-use native.Mathlib.Omega.{arith}
+use Rattle.std.proofs.Common.{ℕ, ◌+◌, ◌*◌, ◌^◌, ◌≤◌, ◌<◌, min, ◌≡◌, refl, sym, ap, subst, ◌∙◌, List, [], ◌∷◌, ◌++◌, append_assoc, Bool, true, false, cond, leb, arith, zero-add, length, take, drop, get_or, length-append}
+use Rattle.std.specs.Prelude.{Option, Some, None, is_some, not}
+use Rattle.std.proofs.lemmas.List.{take_min}
+use Prim.Native.Nat.{zero-le}
 use native.Mathlib.Numerals.{add-one}
-use native.Mathlib.Nat.{zero-add}
-use lib.ListN.{length, take, drop, get_or, length-append, length-take}
-use lib.Seq.{sets, sets-eq, length-sets, length-take-le, take-suc, take_all, get_or-take}
+use lib.ListN.{length-take}
+use lib.Seq.{sets, sets-eq, length-sets, length-take-le, take-suc, take_all}
 use borrow.Author.Tests.{le-leb, lt-leb}
 use Rattle.tasklist.specs.Encode.{joined}
 use Rattle.tasklist.proofs.WriterLaws.{sets_append}
 use Rattle.plans.specs.View.{model as parts_model}
 use Rattle.runtime.specs.declared.Run.{Run}
 use Rattle.runtime.specs.View.{model}
-use Rattle.wording.specs.declared.Pending.{Pending}
-use Rattle.wording.specs.declared.Pending.TheVariants.{Nothing, Kind}
 use Rattle.wording.specs.Wording.{followed, line, totals, closing}
 use Rattle.wording.specs.Promises.{given, Wrote, half_bytes}
 use Rattle.wording.proofs.DigitLaws.{digits_most, followed_length}
@@ -50,13 +47,22 @@ wrote_all given_bytes bytes out new n g h k e =
     inside : n ≤ length new
     inside = omega (arith, ap length e, length-sets out 0 bytes)
 
-pub half_none : (p : Pending) → p ≡ Nothing → half_bytes p ≡ []
+-- half a call that waits, or none
+pub half_none : (p : Option ℕ) (none : Bool) → none ≡ true → is_some p ≡ not none → half_bytes p ≡ []
 unfolding half_bytes
-half_none p q = ap half_bytes q
+half_none None none h e = refl
+half_none (Some k) none h e = let z : true ≡ false = e ∙ ap not h in cc
 
-pub half_some : (p : Pending) (k : ℕ) → p ≡ Kind k → half_bytes p ≡ line 18
+pub half_some : (p : Option ℕ) (none : Bool) → none ≡ false → is_some p ≡ not none → half_bytes p ≡ line 18
 unfolding half_bytes
-half_some p k q = ap half_bytes q
+half_some None none h e = let z : false ≡ true = e ∙ ap not h in cc
+half_some (Some k) none h e = refl
+
+pub given_none : (room : ℕ) (out bytes : List ℕ) → bytes ≡ [] → given room out bytes ≡ []
+unfolding given
+given_none room out bytes e =
+    ap (λ b. cond (leb room (length out)) b []) e
+    ∙ elim (leb room (length out)) as (λ b. cond {A = List ℕ} b [] [] ≡ []) [ true ↦ refl | false ↦ refl ]
 
 -- a number of 32 bits and the byte behind it
 pub followed_most : (n behind : ℕ) → n < 2 ^ 32 → length (followed n behind) ≤ 11
@@ -133,14 +139,10 @@ module _ (xs before : List ℕ) where
       (l.behind ∙ ap (λ k. length (joined line k)) all, omega (arith, l.most), l.places ∙ ap (λ k. sets before 0 (joined line k)) all)
 
 -- the memory of the model is that of the code
-module _ (run : Run) (whole : length run.memory ≡ 64) (n : ℕ) (q : n ≡ min run.tables.locations 64) where
-  pub memory_long : length (model run).memory ≡ n
-  unfolding parts_model
-  memory_long = length-take run.tables.locations run.memory ∙ ap (min run.tables.locations) whole ∙ sym q
-
-  pub memory_at : (i : ℕ) → i < n → get_or run.memory i 0 ≡ get_or (model run).memory i 0
-  unfolding parts_model
-  memory_at i h = sym (get_or-take run.tables.locations run.memory i 0 (omega arith))
+pub memory_same : (run : Run) (n : ℕ) → length run.memory ≡ 64 → n ≡ min run.tables.locations 64 → take n run.memory ≡ (model run).memory
+unfolding parts_model
+memory_same run n whole q =
+    ap (λ k. take k run.memory) (q ∙ ap (min run.tables.locations) (sym whole)) ∙ take_min run.tables.locations run.memory
 
 -- the memory, then the totals
 pub closed :

@@ -1,14 +1,11 @@
 -- Laws of numbers in decimal. Assumes nothing.
-use Prim.Native.Nat.{ℕ, zero, suc, ◌+◌, ◌/◌, ◌%◌, ◌^◌, ◌≤◌, ◌<◌, zero-le}
-use mathlib.Core.Path.{◌≡◌, refl, sym, ap, ◌∙◌}
-use mathlib.Core.List.{List, [], ◌∷◌, ◌++◌}
-use mathlib.Core.Bool.{Bool, true, false}
-use native.Mathlib.Omega.{arith}
+use Rattle.std.proofs.Common.{ℕ, zero, suc, ◌+◌, ◌/◌, ◌%◌, ◌^◌, ◌≤◌, ◌<◌, ◌≡◌, refl, sym, ap, ◌∙◌, List, [], ◌∷◌, ◌++◌, append_assoc, append-nil, Bool, true, false, arith, length, ltb, length-append}
+use Rattle.std.specs.Fmt.{decimal, digit_glyph, digits_onto, digits as printed_digits}
+use Prim.Native.Nat.{zero-le}
 use native.Mathlib.Nat.{pow-suc}
-use lib.ListN.{length, set, length-append}
+use lib.ListN.{set}
 use lib.Seq.{sets}
-use lib.Dec.{ltb}
-use borrow.Author.Tests.{lt-ltb, le-ltb, ltb-false}
+use borrow.Author.Tests.{lt-ltb, le-ltb, ltb-true, ltb-false, eq-eqb, ne_eqb}
 use Rattle.tasklist.proofs.WriterLaws.{sets_append}
 use Rattle.wording.specs.Wording.{digits_within, digits, followed, line}
 
@@ -67,21 +64,44 @@ digits_three n h = within_most (suc n) 2 n (omega (arith, h))
 pub sets_last : (l xs : List ℕ) (i x : ℕ) → set (sets l i xs) (i + length xs) x ≡ sets l i (xs ++ (x ∷ []))
 sets_last l xs i x = sym (sets_append xs l (x ∷ []) i)
 
--- the digits, one behind the other
-module _ (out : List ℕ) (at n : ℕ) where
-  pub put_one : n < 10 → set out at (48 + n) ≡ sets out at (digits n)
-  put_one h = sym (ap (sets out at) (digits_one n h))
+-- the digits are those that std prints
+digit_is : (d : ℕ) → d < 10 → digit_glyph false d ≡ 48 + d
+digit_is d h = rw (lt-ltb d 10 h) refl
 
-  pub more_length : 10 ≤ n → length (digits n) ≡ length (digits (n / 10)) + 1
-  more_length h = ap length (digits_more n h) ∙ length-append (digits (n / 10)) ((48 + n % 10) ∷ [])
+onto_small : (k n : ℕ) (acc : List ℕ) → n < 10 → digits_onto (suc k) 10 false n acc ≡ digits n ++ acc
+onto_small k n acc h =
+    let none : n / 10 ≡ 0 = omega arith in
+    let same : n % 10 ≡ n = omega arith in
+    rw (eq-eqb (n / 10) 0 none, digits_one n h) (ap (λ d. d ∷ acc) (digit_is (n % 10) (omega arith) ∙ ap (λ d. 48 + d) same))
 
-  pub put_more : (new : List ℕ) (last : ℕ) → 10 ≤ n → new ≡ sets out at (digits (n / 10)) → last ≡ at + length (digits (n / 10))
-      → set new last (48 + n % 10) ≡ sets out at (digits n)
-  put_more new last h e q =
-      ap (λ l. set l last (48 + n % 10)) e
-      ∙ ap (λ k. set (sets out at (digits (n / 10))) k (48 + n % 10)) q
-      ∙ sets_last out (digits (n / 10)) at (48 + n % 10)
-      ∙ ap (sets out at) (sym (digits_more n h))
+onto_large :
+    (k n : ℕ) (acc : List ℕ) → 10 ≤ n
+    → digits_onto k 10 false (n / 10) ((48 + n % 10) ∷ acc) ≡ digits (n / 10) ++ ((48 + n % 10) ∷ acc)
+    → digits_onto (suc k) 10 false n acc ≡ digits n ++ acc
+onto_large k n acc h ih =
+    let some : n / 10 ≡ 0 → ⊥ = λ z. omega arith in
+    rw (ne_eqb (n / 10) 0 some)
+    (
+    ap (λ d. digits_onto k 10 false (n / 10) (d ∷ acc)) (digit_is (n % 10) (omega arith)) ∙ ih
+    ∙ sym (append_assoc (digits (n / 10)) ((48 + n % 10) ∷ []) acc) ∙ ap (λ l. l ++ acc) (sym (digits_more n h))
+    )
+
+onto_is : (k n : ℕ) (acc : List ℕ) → n < 10 ^ suc k → digits_onto (suc k) 10 false n acc ≡ digits n ++ acc
+onto_is zero n acc h = onto_small 0 n acc (omega (arith, h))
+onto_is (suc k) n acc h = by_size (onto_is k (n / 10) ((48 + n % 10) ∷ acc) less) (ltb n 10) refl
+  where
+    less : n / 10 < 10 ^ suc k
+    less = let p = pow-suc 10 (suc k) in omega (arith, p, h)
+
+    by_size :
+        digits_onto (suc k) 10 false (n / 10) ((48 + n % 10) ∷ acc) ≡ digits (n / 10) ++ ((48 + n % 10) ∷ acc)
+        → (t : Bool) → ltb n 10 ≡ t → digits_onto (suc (suc k)) 10 false n acc ≡ digits n ++ acc
+    by_size ih true e = onto_small (suc k) n acc (ltb-true n 10 e)
+    by_size ih false e = onto_large (suc k) n acc (ltb-false n 10 e) ih
+
+pub decimal_is : (n : ℕ) → n < 2 ^ 32 → decimal n ≡ digits n
+unfolding printed_digits
+decimal_is n h = onto_is 63 n [] (omega (arith, h)) ∙ append-nil (digits n)
 
 pub followed_length : (n behind : ℕ) → length (followed n behind) ≡ length (digits n) + 1
 unfolding followed

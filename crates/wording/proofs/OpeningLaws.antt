@@ -1,10 +1,6 @@
 -- Laws of opening by the bytes of the two files. Assumes nothing.
-use Prim.Native.Nat.{ℕ, zero, suc, ◌≤◌}
-use mathlib.Core.Path.{◌≡◌, refl, ap, subst, ◌∙◌}
-use mathlib.Core.List.{List, [], ◌∷◌}
-use native.Mathlib.Omega.{arith}
-use lib.ListN.{length}
-use lib.Seq.{sets}
+use Rattle.std.proofs.Common.{ℕ, ◌≤◌, ◌≡◌, refl, ap, subst, ◌∙◌, List, [], ◌∷◌, arith, length}
+use Rattle.std.specs.Prelude.{Result}
 use Rattle.tasklist.specs.declared.Refusal.{Refusal}
 use Rattle.tasklist.specs.declared.Refusal.TheVariants.{Incomplete, Tag, Head, Footprint, Body, Leftover, Tasks}
 use Rattle.tasklist.specs.Decode.{Decoded, refused, accepted, decode}
@@ -13,11 +9,16 @@ use Rattle.tasklist.proofs.Guarantees.{accepted_list}
 use Rattle.library.specs.Library.{memory_of, fitting}
 use Rattle.library.proofs.LibraryLaws.{fits_alike}
 use Rattle.semantics.specs.Operations.{denies, with_weights, with_list, open_asked}
-use Rattle.semantics.specs.Run.{Run, Context, context, initial}
-use Rattle.runtime.specs.Asked.{OpenedAs}
-use Rattle.runtime.specs.declared.Opened.{Opened}
+use Rattle.semantics.specs.Run.{Context, context, initial}
+use Rattle.semantics.specs.Run as Semantics
+use Rattle.runtime.specs.declared.Run.{Run}
+use Rattle.runtime.specs.declared.OpenRefusal.{OpenRefusal}
+use Rattle.runtime.specs.declared.OpenRefusal.TheVariants as Opening
+use Rattle.runtime.specs.Asked.{open_number, OpenedAs}
 use Rattle.wording.specs.Wording.{line, refused_line}
-use Rattle.wording.specs.Promises.{open_bytes}
+use Rattle.wording.specs.Promises.{PutAt}
+use Rattle.wording.proofs.DigitLaws.{line_most}
+use Rattle.wording.proofs.PutLaws.{put_then}
 
 -- The code reads at most 64 numbers, and no list has more: so it is for whatever is asked of a list and its numbers.
 pub asked_fitting :
@@ -39,7 +40,7 @@ asked_fitting {A} jobs library weights f = by_list (decode jobs) refl
 
 -- what is opened by the numbers that were read, under the weights of today
 pub asked_by :
-    (f : Context → List ℕ → Run) (jobs library memory weights today : List ℕ) (o : Opened) → memory ≡ fitting library
+    (f : Context → List ℕ → Semantics.Run) (jobs library memory weights today : List ℕ) (o : Result Run OpenRefusal) → memory ≡ fitting library
     → weights ≡ today → OpenedAs jobs weights (with_list (decode jobs) memory weights (λ c. f c memory)) o
     → OpenedAs jobs today (with_list (decode jobs) (memory_of library) today (λ c. f c (memory_of library))) o
 asked_by f jobs library memory weights today o e w h =
@@ -48,14 +49,14 @@ asked_by f jobs library memory weights today o e w h =
     (subst (λ ws. OpenedAs jobs ws (with_list (decode jobs) memory ws (λ c. f c memory)) o) w h)
 
 pub opened_by :
-    (jobs library memory weights today : List ℕ) (o : Opened) → memory ≡ fitting library → weights ≡ today
+    (jobs library memory weights today : List ℕ) (o : Result Run OpenRefusal) → memory ≡ fitting library → weights ≡ today
     → OpenedAs jobs weights (open_asked jobs memory weights) o → OpenedAs jobs today (open_asked jobs (memory_of library) today) o
 unfolding open_asked
 opened_by jobs library memory weights today o e w h =
     asked_by (λ c m. initial c m) jobs library memory weights today o e w h
 
--- a list's refusal is 1 to 7
-pub refusal_most : (k : Refusal) → Listed.refusal_number k ≤ 22
+-- a refusal is at most 22
+refusal_most : (k : Refusal) → Listed.refusal_number k ≤ 22
 refusal_most Incomplete = omega arith
 refusal_most Tag = omega arith
 refusal_most Head = omega arith
@@ -64,23 +65,20 @@ refusal_most Body = omega arith
 refusal_most Leftover = omega arith
 refusal_most Tasks = omega arith
 
-pub open_none : (n : ℕ) → n ≡ 0 → open_bytes n ≡ []
-unfolding open_bytes
-open_none n h = ap open_bytes h
+pub open_most : (k : OpenRefusal) → open_number k ≤ 22
+unfolding open_number
+open_most (Opening.List k) = refusal_most k
+open_most Opening.Length = omega arith
+open_most Opening.Table = omega arith
+open_most Opening.Weight = omega arith
 
-pub open_some : (n : ℕ) → (n ≡ 0 → ⊥) → open_bytes n ≡ refused_line n
-unfolding open_bytes
-open_some zero h = absurd (h refl)
-open_some (suc n) h = refl
-
-pub refused_length : (n : ℕ) → length (refused_line n) ≡ suc (suc (suc (suc (suc (suc (suc (suc (length (line n)))))))))
+pub refused_length : (n : ℕ) → n ≤ 22 → length (refused_line n) ≤ 11
 unfolding refused_line
-refused_length n = refl
+refused_length n h = omega (arith, line_most n h)
 
 -- the word, then the number
 pub put_refused :
-    (out out₁ out₂ out₃ : List ℕ) (n : ℕ) → out₁ ≡ sets out 0 (114 ∷ 101 ∷ 102 ∷ 117 ∷ []) → out₂ ≡ sets out₁ 4 (115 ∷ 101 ∷ 100 ∷ 32 ∷ [])
-    → out₃ ≡ sets out₂ 8 (line n) → out₃ ≡ sets out 0 (refused_line n)
+    {out out₁ out₂ : List ℕ} {at stop : ℕ} (n : ℕ) → PutAt (114 ∷ 101 ∷ 102 ∷ 117 ∷ 115 ∷ 101 ∷ 100 ∷ 32 ∷ []) out 0 out₁ at
+    → PutAt (line n) out₁ at out₂ stop → PutAt (refused_line n) out 0 out₂ stop
 unfolding refused_line
-put_refused out out₁ out₂ out₃ n a b d =
-    d ∙ ap (λ o. sets o 8 (line n)) (b ∙ ap (λ o. sets o 4 (115 ∷ 101 ∷ 100 ∷ 32 ∷ [])) a)
+put_refused n a b = put_then a b

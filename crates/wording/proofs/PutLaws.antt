@@ -1,11 +1,8 @@
 -- Bytes put one behind the other. Assumes nothing.
-use Prim.Native.Nat.{ℕ, suc, ◌+◌, ◌≤◌, ◌<◌}
-use mathlib.Core.Path.{◌≡◌, refl, sym, ap, ◌∙◌}
-use mathlib.Core.List.{List, [], ◌++◌}
-use native.Mathlib.Omega.{arith}
-use native.Mathlib.Nat.{zero-add}
-use lib.ListN.{length, drop, get_or, set, length-append, length-set, drop_of_length-le}
-use lib.Seq.{sets, length-sets, sets-eq, drop-cons, drop_at}
+use Rattle.std.proofs.Common.{ℕ, ◌+◌, ◌≤◌, ◌<◌, ◌≡◌, refl, sym, ap, ◌∙◌, List, [], ◌++◌, append_assoc, length, take, drop, arith, zero-add, length-append}
+use Rattle.std.proofs.lemmas.List.{drop-drop}
+use borrow.Rule.Slice.PartMut.{put_mid}
+use lib.Seq.{sets, length-sets, sets-eq, drop_at}
 use Rattle.tasklist.proofs.WriterLaws.{sets_append}
 use Rattle.wording.specs.Promises.{Wrote, PutAt, PutIf}
 use Rattle.wording.proofs.ClosingLaws.{wrote_all}
@@ -50,36 +47,19 @@ put_by x before at after stop q e = record { behind = q; places = e; long = ap l
 pub put_over : (out whole : List ℕ) (at last : ℕ) → PutAt [] out at whole last → (at ≡ last) × (out ≡ whole)
 put_over out whole at last q = (omega (arith, q.behind), sym q.places)
 
--- What holds while a word is put, byte by byte: how long the slice is, and what is still to be put.
-pub record Putting (word before : List ℕ) (at : ℕ) (out : List ℕ) (i : ℕ) : Type 0 where
-  pub within : i ≤ length word
-  pub long : length out ≡ length before
-  pub rest : sets out (at + i) (drop i word) ≡ sets before at word
-
-module _ (word before : List ℕ) (at : ℕ) where
-  pub putting_none : Putting word before at before 0
-  putting_none = record { within = omega arith; long = refl; rest = ap (λ k. sets before k word) (let q : at + 0 ≡ at = omega arith in q) }
-
-  pub putting_more :
-      (out : List ℕ) (i : ℕ) → Putting word before at out i → i < length word
-      → Putting word before at (set out (at + i) (get_or word i 0)) (i + 1)
-  putting_more out i p below =
-      record {
-        within = omega arith;
-        long = length-set out (at + i) (get_or word i 0) ∙ p.long;
-        rest =
-            (let one : at + (i + 1) ≡ suc (at + i) = omega arith in
-            let next : i + 1 ≡ suc i = omega arith in
-            ap (λ k. sets (set out (at + i) (get_or word i 0)) k (drop (i + 1) word)) one
-            ∙ ap (λ k. sets (set out (at + i) (get_or word i 0)) (suc (at + i)) (drop k word)) next)
-            ∙ ap (sets out (at + i)) (sym (drop-cons word i 0 below))
-            ∙ p.rest;
-      }
-
-  pub putting_all :
-      (out : List ℕ) (i : ℕ) → Putting word before at out i → length word ≤ i → PutAt word before at out (at + i)
-  putting_all out i p over =
-      put_by word before at out (at + i) (omega (arith, p.within)) (ap (sets out (at + i)) (sym (drop_of_length-le word over)) ∙ p.rest)
+-- a word in the part of a slice that it fills
+pub put_part :
+    (word before part : List ℕ) (at k : ℕ) → at + length word ≤ length before → k ≡ length word → part ≡ word
+    → PutAt word before at (put_mid at k before part) (at + length word)
+put_part word before part at k h size given =
+    put_by word before at (put_mid at k before part) (at + length word) refl
+    (
+    rw (size, given)
+    (
+    ap (λ l. take at before ++ (word ++ l)) (drop-drop (length word) at before)
+    ∙ sym (append_assoc (take at before) word (drop (at + length word) before)) ∙ sym (sets-eq word before at h)
+    )
+    )
 
 -- put at the front, where there is room
 pub put_wrote :

@@ -1,47 +1,22 @@
 // What is printed when the input has ended.
-ghost use Rattle.std.specs.Prelude.{◌+◌, ◌^◌, ◌≤◌, ◌<◌, min, ◌≡◌, length};
+ghost use Rattle.std.specs.Prelude.{◌+◌, ◌≤◌, ◌≡◌, length};
 ghost use Rattle.std.proofs.lemmas.List.Edits.{sets};
 ghost use Rattle.tasklist.specs.Encode.{joined};
 ghost use Rattle.runtime.specs.View.{model};
 ghost use Rattle.wording.specs.Wording.{line, closing, totals};
 ghost use Rattle.wording.specs.Promises.{Wrote, given, half_bytes};
 
-use crate::Pending;
 use crate::decimal::put_followed;
 use runtime::Run;
 
-// Half a call at the input's end: its line, 18, at the front of `out`, or nothing.
-pub fn half_line(pending: Pending, out: &mut [u8]) -> usize
+// Half a call at the input's end, of which the first byte waits: its line, 18, at the front of `out`, or nothing.
+pub fn half_line(pending: Option<u8>, out: &mut [u8]) -> usize
     ensures { Wrote (given 3 out.old (half_bytes pending)) out.old out.new result }
 {
-    if out.len() < 3 {
+    if pending.is_none() || out.len() < 3 {
         return 0;
     }
-    match pending {
-        Pending::Nothing => 0,
-        Pending::Kind(_) => put_followed(out, 0, 18, 10),
-    }
-}
-
-// A number, at most 128.
-fn within(n: usize) -> u32
-    ensures { result ≡ min n 128 }
-{
-    if n < 128 { n as u32 } else { 128 }
-}
-
-// A number, at most 64.
-fn places(n: u8) -> usize
-    ensures { result ≡ min n 64 }
-{
-    if n < 64 { n as usize } else { 64 }
-}
-
-// A number as it is.
-fn plain(n: u32) -> u32
-    ensures { (result ≡ n) × (result < 2 ^ 32) }
-{
-    n
+    put_followed(out, 0, 18, 10)
 }
 
 // Puts the memory at the front, each location on a line, and gives the position behind it.
@@ -49,13 +24,10 @@ fn put_memory(run: Run, out: &mut [u8]) -> usize
     requires { 704 ≤ length out.old }
     ensures { (result ≡ length (joined line (model run).memory)) × (result ≤ 704) × (out.new ≡ sets out.old 0 (joined line (model run).memory)) }
 {
-    let tables = run.tables;
-    let n = places(tables.locations);
+    let locations = usize::from(run.tables.locations).min(64);
     let mut at = 0;
-    let mut i = 0;
-    while i < n {
-        at = put_followed(out, at, plain(run.memory[i]), 10);
-        i += 1;
+    for number in &run.memory[..locations] {
+        at = put_followed(out, at, *number, 10);
     }
     at
 }
@@ -79,5 +51,5 @@ pub fn closing_lines(run: Run, out: &mut [u8]) -> usize
         return 0;
     }
     let at = put_memory(run, out);
-    put_totals(out, at, run.calls, run.weight, within(run.left))
+    put_totals(out, at, run.calls, run.weight, run.left.min(128) as u32)
 }

@@ -2,13 +2,6 @@
 // the closing lines.
 #![tactic(auto)]
 
-// The byte that a piece of input ends with, where it is the first of a call.
-#[derive(Clone, Copy)]
-pub enum Pending {
-    Nothing,
-    Kind(u8),
-}
-
 mod closing;
 mod decimal;
 mod opening;
@@ -16,5 +9,5 @@ mod putting;
 
 pub use closing::{closing_lines, half_line};
 pub use decimal::put_followed;
-pub use opening::{open_files, open_line, open_number};
+pub use opening::{open_files, open_line};
 pub use putting::{put_number, put_word};

@@ -1,4 +1,6 @@
 // Bytes put one behind the other: words, and numbers in decimal. Nothing is put where there is no room.
+// Kept: `out` and `at` stay two parameters. A writer that holds both would hold a `&mut`, and each clause would speak of the borrow
+// where `out.new` says it now.
 ghost use Rattle.std.specs.Prelude.{◌+◌, ◌≤◌, ◌≡◌, leb, length};
 ghost use Rattle.wording.specs.Wording.{followed};
 ghost use Rattle.wording.specs.Promises.{PutAt, PutIf};
@@ -8,30 +10,20 @@ use crate::decimal::put_followed;
 // The places that a number and the byte behind it need at most.
 const NUMBER_ROOM: usize = 11;
 
-// Puts bytes at `at`, where there is room for them.
-fn put_bytes(out: &mut [u8], at: usize, word: &[u8]) -> usize
+// Puts bytes at `at`, where there is room for them, and gives the position behind them.
+pub(crate) fn put_bytes(out: &mut [u8], at: usize, word: &[u8]) -> usize
     requires { at + length word.now ≤ length out.old }
     ensures { PutAt word.now out.old at out.new result }
 {
-    let mut i = 0;
-    while i < word.len() {
-        out[at + i] = word[i];
-        i += 1;
-    }
-    at + i
+    out[at..at + word.len()].copy_from_slice(word);
+    at + word.len()
 }
 
 // Whether so many places are left from `at` on.
 fn has_room(places: usize, at: usize, wanted: usize) -> bool
     ensures { result ≡ leb (at + wanted) places }
 {
-    if places < at {
-        return false;
-    }
-    if places - at < wanted {
-        return false;
-    }
-    true
+    at <= places && wanted <= places - at
 }
 
 // Puts bytes at `at` and gives the position behind them; `at` itself where they don't fit.

@@ -1,45 +1,28 @@
 -- The parts are those of the first weights, and the pence are what is left of the bill.
 -- Assumes nothing.
-use Prim.Native.Nat.{◌-◌}
-use mathlib.Core.Path.{◌≡◌}
-use native.Mathlib.Omega.{arith}
-use lib.ListN.{length, take, length-take}
+use Rattle.std.proofs.Common.{◌≡◌, arith, rules, ◌-◌, length, take, map}
+use lib.ListN.{length-take}
 use Rattle.bill_shares.proofs.CodeLaws.{rounded_most, shares_are, shares_behind}
-use borrow.Author.Rules.{rules}
 use Rattle.bill_shares.proofs.shares_of.Goals as goal
 
 pub overflow_sub-pence : goal.overflow_sub-pence
 overflow_sub-pence c =
-    let a = c.args in
-    let n = c.clipped-places.result in
-    let all = c.whole_of-all in
-    let down = c.floors_of-floors in
-    let most = rounded_most a.bill all.result (take n a.weights) (take n down.result) all.ensures down.ensures.1 in
-    omega (arith, c.wide.ensures.0, c.whole_of-rounded.ensures, most)
+    let most = rounded_most c.args.bill c.total.result _ _ c.total.ensures c.parts_of-parts.ensures.floors in
+    omega (arith, most)
 
-pub handed_out-requires : goal.handed_out-requires
-handed_out-requires c =
-    let a = c.args in
-    let clipped = c.clipped-places in
-    let n = clipped.result in
-    let all = c.whole_of-all in
-    let down = c.floors_of-floors in
-    let most = rounded_most a.bill all.result (take n a.weights) (take n down.result) all.ensures down.ensures.1 in
-    (omega (arith, clipped.ensures), omega (arith, c.wide.ensures.0, c.wide.ensures.1, c.whole_of-rounded.ensures, most))
+pub handed_out-requires-clause-fits : goal.handed_out-requires-clause-fits
+handed_out-requires-clause-fits c =
+    let most = rounded_most c.args.bill c.total.result _ _ c.total.ensures c.parts_of-parts.ensures.floors in
+    omega (arith, most)
 
 pub returns : goal.returns
 returns c =
     let a = c.args in
-    let clipped = c.clipped-places in
-    let n = clipped.result in
-    let all = c.whole_of-all in
-    let down = c.floors_of-floors in
-    let left = c.remainders_of-remainders in
-    let rounded = c.whole_of-rounded in
-    let wide = c.wide in
-    let long : length a.weights ≡ 128 = search rules in
+    let ws = take c.min.result a.weights in
+    let made = c.parts_of-parts in
+    let parts = take (length ws) made.result in
+    let many : length parts ≡ length ws = omega (arith, length-take (length ws) made.result, length-take c.min.result a.weights, made.ensures.len) in
     let is =
-    shares_are a.bill all.result (take n a.weights) (take n down.result) all.ensures down.ensures.1
-    (take n left.result) (wide.result - rounded.result) n left.ensures.1
-    (omega (arith, wide.ensures.0, rounded.ensures)) (omega (arith, length-take n a.weights, long, clipped.ensures)) in
-    shares_behind a.bill a.count n a.weights _ c.handed_out.result long clipped.ensures is c.handed_out.ensures
+    shares_are a.bill c.total.result ws (map (λ p. p.floor) parts) c.total.ensures made.ensures.floors
+    (map (λ p. p.remainder) parts) (c.from.result - c.floors_of.result) (length parts) made.ensures.remainders (omega arith) many in
+    shares_behind a.bill a.count c.min.result (length parts) a.weights _ c.handed_out.result (search rules) c.min.ensures many is c.handed_out.ensures

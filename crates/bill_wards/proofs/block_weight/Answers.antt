@@ -1,27 +1,31 @@
 -- Task by task, modulo 2^32. Assumes nothing.
-use Rattle.std.proofs.Common.{◌≡◌, ℕ, ◌%◌, ◌^◌, take, drop, refl, ap, ◌∙◌, arith}
+use Rattle.std.proofs.Common.{◌≡◌, ◌+◌, ◌-◌, ◌%◌, ◌^◌, take, drop, sym, ap, ◌∙◌, arith}
 use Rattle.tasklist.specs.TaskList.{total}
 use Rattle.semantics.specs.Sound.{weighs}
 use Rattle.runtime.specs.View.{model}
 use Rattle.bill_wards.proofs.BlockLaws.{weighs_turn}
 use Rattle.bill_wards.proofs.block_weight.Goals as goal
 
-pub loop-i-init : goal.loop-i-init
+pub loop-task-init : goal.loop-task-init
 unfolding total
-loop-i-init c = (omega arith, refl)
+loop-task-init c =
+    let none : c.args.n - c.args.n ≡ 0 = omega arith in
+    sym (ap (λ k. total weighs (take k (drop c.args.n (model c.args.run).tasks)) % 2 ^ 32) none)
 
-pub loop-i-preserved : goal.loop-i-preserved
-loop-i-preserved c =
-    let at = c.loop-i in
-    let a = c.args in (
-      omega (arith, c.loop-i-test.true),
-      c.wrapping_add_u32-sum.ensures.value
-          ∙ weighs_turn (model a.run).tasks a.n at.i at.sum c.task_weight-weight.result at.invariant.1 c.task_weight-weight.ensures,
-    )
+pub loop-task-preserved : goal.loop-task-preserved
+loop-task-preserved c =
+    let at = c.loop-task in
+    let a = c.args in
+    let ts = (model a.run).tasks in
+    let here : at.task ≡ a.n + (at.task - a.n) = omega arith in
+    let next : at.task - a.n + 1 ≡ at.task + 1 - a.n = omega arith in
+    weighs_turn ts a.n (at.task - a.n) at.sum c.task_weight-sum.result at.invariant
+    (c.task_weight-sum.ensures ∙ ap (λ k. total weighs (take 1 (drop k ts))) here)
+    ∙ ap (λ k. total weighs (take k (drop a.n ts)) % 2 ^ 32) next
 
 pub returns : goal.returns
 returns c =
-    let at = c.loop-i in
+    let at = c.loop-task in
     let a = c.args in
-    let done : at.i ≡ a.size = omega (arith, c.loop-i-test.false, at.invariant.0) in
-    at.invariant.1 ∙ ap (λ (k : ℕ). total weighs (take k (drop a.n (model a.run).tasks)) % 2 ^ 32) done
+    let done : at.task - a.n ≡ a.size = omega arith in
+    at.invariant ∙ ap (λ k. total weighs (take k (drop a.n (model a.run).tasks)) % 2 ^ 32) done

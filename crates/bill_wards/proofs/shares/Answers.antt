@@ -1,5 +1,5 @@
 -- The four answers. Assumes nothing.
-use Rattle.std.proofs.Common.{arith}
+use Rattle.std.proofs.Common.{◌++◌, drop, ap, arith}
 use Rattle.bill_wards.proofs.BillLaws.{billed_left, billed_none, billed_short, billed_shared}
 use Rattle.bill_wards.proofs.shares.Goals as goal
 
@@ -25,20 +25,13 @@ returns-then-out-count c =
     billed_short a.run a.bill a.out.now left.result left.ensures (omega (arith, c.if-left-gt0.false))
     w.result w.ensures c.if-count-eq0.false c.if-out-count.true
 
-pub put_values-requires : goal.put_values-requires
-put_values-requires c = (
-  omega (arith, c.wards_of-wards.ensures.few),
-  omega (arith, c.if-out-count.false),
-)
-
 pub returns : goal.returns
 returns c =
     let a = c.args in
     let left = c.tasks_left-left in
     let w = c.wards_of-wards in
     let given = c.shares_of-given in
-    let put = c.put_values in
     billed_shared a.run a.bill a.out.now left.result left.ensures
     (omega (arith, c.if-left-gt0.false)) w.result w.ensures
-    c.if-count-eq0.false given.result put.new.out
-    (omega (arith, c.if-out-count.false)) given.ensures put.ensures
+    c.if-count-eq0.false given.result _
+    (omega (arith, c.if-out-count.false)) given.ensures (ap (λ l. l ++ drop w.result.count a.out.now) c.copy_from_slice.ensures.after)

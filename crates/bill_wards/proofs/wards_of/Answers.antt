@@ -7,7 +7,6 @@ use Rattle.bill_wards.proofs.wards_of.Goals as goal
 
 pub loop-n-init : goal.loop-n-init
 loop-n-init c = (
-  omega arith,
   record {
     numbered = length-replicate {A = ℕ} 128 0;
     weighted = length-replicate {A = ℕ} 128 0;
@@ -20,21 +19,20 @@ loop-n-init c = (
 )
 
 pub turned-walk-requires : goal.turned-walk-requires
-turned-walk-requires c = (c.loop-n-test.true, c.loop-n.invariant.1)
+turned-walk-requires c = (c.loop-n-test.true, c.loop-n.invariant.0)
 
 pub loop-n-preserved : goal.loop-n-preserved
 loop-n-preserved c =
     let at = c.loop-n in
     let t = c.turned-walk in
     let run = c.args.run in (
-      omega (arith, c.loop-n-test.true),
       subst (Room t.result) (sym (add-one at.n)) t.ensures.room,
-      λ s. ap (with_later run t.result) (add-one at.n) ∙ t.ensures.numbers s ∙ at.invariant.2 s,
-      λ s. t.ensures.weights s (at.invariant.3 s),
+      λ s. ap (with_later run t.result) (add-one at.n) ∙ t.ensures.numbers s ∙ at.invariant.1 s,
+      λ s. t.ensures.weights s (at.invariant.2 s),
     )
 
 pub returns : goal.returns
 returns c =
     let at = c.loop-n in
-    walked c.args.run at.walk at.n (omega (arith, c.loop-n-test.false, at.invariant.0)) at.invariant.1
-    at.invariant.2 at.invariant.3
+    walked c.args.run at.walk at.n (omega arith) at.invariant.0
+    at.invariant.1 at.invariant.2

@@ -1,8 +1,6 @@
 -- One place is put, unless the mode is 0.
 -- Assumes nothing.
-use mathlib.Core.Path.{sym, ap}
-use native.Mathlib.Omega.{arith}
-use lib.ListN.{length}
+use Rattle.std.proofs.Common.{◌+◌, ◌*◌, ◌≡◌, sym, ap, ◌∙◌, arith, length, set}
 use lib.Seq.{sets}
 use Rattle.inspect.proofs.AskLaws.{shown_none, shown_one}
 use Rattle.inspect.proofs.put_place.Goals as goal
@@ -19,4 +17,5 @@ bounds-out-at c =
 pub returns : goal.returns
 returns c =
     let one = shown_one c.args.task c.args.mode c.if-mode-eq0.false in
-    (omega (arith, ap length one), sym (ap (sets c.args.out.now c.args.at) one))
+    let value : c.from.result + 256 * c.from-2.result ≡ c.args.task + 256 * c.args.mode = omega arith in
+    (omega (arith, ap length one), ap (set c.args.out.now c.args.at) value ∙ sym (ap (sets c.args.out.now c.args.at) one))

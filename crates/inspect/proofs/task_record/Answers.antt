@@ -1,22 +1,23 @@
 -- The task's record and row, whatever the run.
 -- Assumes nothing.
-use Rattle.semantics.specs.Answers.{refusal_number}
+use Rattle.std.proofs.Common.{◌≡◌, sym, ap, ◌∙◌, rules, length}
+use Rattle.std.proofs.lemmas.Result.{err_from_is_err_and}
+use Rattle.semantics.specs.Operations.{record_asked}
+use Rattle.runtime.specs.View.{model}
 use Rattle.runtime.specs.Asked.{recorded}
-use mathlib.Core.Path.{◌≡◌, sym}
-use native.Mathlib.Omega.{arith}
-use lib.ListN.{length}
 use Rattle.inspect.proofs.AskLaws.{record_refused, record_given}
-use borrow.Author.Rules.{rules}
 use Rattle.inspect.proofs.task_record.Goals as goal
 
-pub returns-then-task-gt127 : goal.returns-then-task-gt127
-unfolding recorded refusal_number
-returns-then-task-gt127 c =
-    sym (record_refused c.args.run c.args.task c.if-task-gt127.true)
+pub returns-in_err-n : goal.returns-in_err-n
+unfolding recorded
+returns-in_err-n c =
+    let p = err_from_is_err_and c.from_residual.result c.from_residual.ensures.1 in
+    rw (p.1, p.2, c.in_err-n.ensures.0) (sym (record_refused c.args.run c.args.task c.in_err-n.ensures.1))
 
 pub returns : goal.returns
 unfolding recorded
 returns c =
     let run = c.args.run in
     let whole : length run.records ≡ 128 = c.well_formed.0.1.1.1.1.0.1.0.1 in
-    record_given run c.args.task c.row_of-modes.result (omega arith) whole (c.row_of-modes.ensures (search rules) (omega arith))
+    record_given run c.in_ok-n.n c.row_of.result c.in_ok-n.ensures.1 whole (c.row_of.ensures (search rules) c.in_ok-n.ensures.1)
+    ∙ ap (record_asked (model run)) c.in_ok-n.ensures.0

@@ -1,16 +1,19 @@
 -- By whether the bytes fit.
 -- Assumes nothing.
-use Rattle.preview.proofs.PreviewLaws.{delivers, delivers_none}
+use Rattle.std.proofs.Common.{◌≡◌, ap, ◌∙◌, length, min, rules}
+use Rattle.preview.proofs.PreviewLaws.{memory_same, delivers, delivers_none}
 use Rattle.preview.proofs.delivered.Goals as goal
 
-pub returns-then-write_numbers : goal.returns-then-write_numbers
-returns-then-write_numbers c =
-    let a = c.args in
-    let write = c.write_numbers in
-    delivers a.run a.res.now write.new.out write.result c.if-write_numbers.true write.ensures
+pub returns-in-Ok : goal.returns-in-Ok
+returns-in-Ok c =
+    let run = c.args.run in
+    let whole : length run.memory ≡ 64 = search rules in
+    let locations : c.min-locations.result ≡ min run.tables.locations 64 = c.min-locations.ensures ∙ ap (λ k. min k 64) c.from.ensures in
+    delivers run _ c.args.res.now _ (memory_same run c.min-locations.result whole locations) c.in-Ok.ensures
 
-pub returns : goal.returns
-returns c =
-    let a = c.args in
-    let write = c.write_numbers in
-    delivers_none a.run a.res.now write.new.out write.result c.if-write_numbers.false write.ensures
+pub returns-in-Err : goal.returns-in-Err
+returns-in-Err c =
+    let run = c.args.run in
+    let whole : length run.memory ≡ 64 = search rules in
+    let locations : c.min-locations.result ≡ min run.tables.locations 64 = c.min-locations.ensures ∙ ap (λ k. min k 64) c.from.ensures in
+    delivers_none run _ c.args.res.now _ (memory_same run c.min-locations.result whole locations) _ _ c.refused.ensures c.in-Err.ensures

@@ -1,101 +1,52 @@
 -- Too short a slice is left alone; else the head, the footprints and the bodies are put one behind the other.
 -- Assumes nothing.
+use Rattle.std.proofs.Common.{ℕ, ◌≡◌, ◌+◌, ◌≤◌, ◌<◌, List, length, arith, rules, ap, ◌∙◌}
+use Rattle.std.proofs.lemmas.List.Edits.{sets}
 use Rattle.tasklist.specs.Answers.{gives}
 use Rattle.tasklist.specs.Encode.{joined, footprint_bytes, body_bytes, head_bytes, encode}
-use Rattle.tasklist.proofs.WriterLaws.{encode_length, put_whole, places_short, answer_short, places_put, answer_put}
 use Rattle.tasklist.specs.Tables.{list_of}
-use lib.Seq.{sets, length-sets}
-use lib.ListN.{length}
-use mathlib.Core.List.{List}
-use Prim.Native.Nat.{ℕ, ◌+◌, ◌≤◌}
-use native.Mathlib.Omega.{arith}
-use mathlib.Core.Path.{◌≡◌, ap, ◌∙◌}
+use Rattle.tasklist.proofs.WriterLaws.{encode_length, put_whole, places_short, answer_short, places_put, answer_put}
+use Rattle.writer.proofs.RecordLaws.{footprints_put, bodies_put, head_put}
 use Rattle.writer.proofs.write.Goals as goal
 
 pub returns-then-out-n : goal.returns-then-out-n
 returns-then-out-n c =
-    let args = c.args in
-    let encoded_length = c.encoded_length-n in (
-      answer_short (encode (list_of args.tables)) args.out.now (omega (
-        arith,
-        encoded_length.ensures,
-        c.if-out-n.true,
-      )),
-      places_short (encode (list_of args.tables)) args.out.now (omega (
-        arith,
-        encoded_length.ensures,
-        c.if-out-n.true,
-      )),
-    )
+    let bytes = encode (list_of c.args.tables) in
+    let short : length c.args.out.now < length bytes = omega arith in
+    (answer_short bytes c.args.out.now short, places_short bytes c.args.out.now short)
 
-pub put_head-requires : goal.put_head-requires
-put_head-requires c =
-    omega (
-      arith,
-      encode_length (list_of c.args.tables),
-      c.encoded_length-n.ensures,
-      c.if-out-n.false,
-    )
+pub put-requires : goal.put-requires
+put-requires c = omega (arith, encode_length (list_of c.args.tables))
 
-pub put_footprints-at-requires : goal.put_footprints-at-requires
-put_footprints-at-requires c =
-    let args = c.args in
-    let encoded_length = c.encoded_length-n in
-    let if1 = c.if-out-n in
-    let put_head = c.put_head in
-    let l₁ : length put_head.new.out ≡ length args.out.now = ap length put_head.ensures ∙ length-sets
-    args.out.now 0 (head_bytes (list_of args.tables)) in
-    omega (arith, encode_length (list_of args.tables), encoded_length.ensures, if1.false, l₁)
+pub put_rows-at-requires-clause-room : goal.put_rows-at-requires-clause-room
+put_rows-at-requires-clause-room c =
+    let t = c.args.tables in
+    let fs = footprints_put t c.footprint_count.result (search rules) c.footprint_count.ensures in
+    omega (arith, encode_length (list_of t), ap length fs, c.put.auto.out)
 
-pub put_bodies-requires : goal.put_bodies-requires
-put_bodies-requires c =
-    let args = c.args in
-    let encoded_length = c.encoded_length-n in
-    let if1 = c.if-out-n in
-    let put_head = c.put_head in
-    let put_footprints = c.put_footprints-at in
-    let l₁ : length put_head.new.out ≡ length args.out.now = ap length put_head.ensures ∙ length-sets
-    args.out.now 0 (head_bytes (list_of args.tables)) in
-    let l₂ : length put_footprints.new.out ≡ length args.out.now = ap length put_footprints.ensures.1 ∙
-    length-sets put_head.new.out 5 (joined footprint_bytes (list_of args.tables).footprints) ∙ l₁ in
-    omega (
-      arith,
-      encode_length (list_of args.tables),
-      encoded_length.ensures,
-      if1.false,
-      l₂,
-      put_footprints.ensures.0,
-    )
-
-pub shape_of-out : goal.shape_of-out
-shape_of-out c =
-    let args = c.args in
-    let put_head = c.put_head in
-    let put_footprints = c.put_footprints-at in
-    let l₁ : length put_head.new.out ≡ length args.out.now = ap length put_head.ensures ∙ length-sets
-    args.out.now 0 (head_bytes (list_of args.tables)) in
-    let l₂ : length put_footprints.new.out ≡ length args.out.now = ap length put_footprints.ensures.1 ∙
-    length-sets put_head.new.out 5 (joined footprint_bytes (list_of args.tables).footprints) ∙ l₁ in
-    ap length c.put_bodies.ensures.1 ∙ length-sets put_footprints.new.out
-    put_footprints.result (joined body_bytes (list_of args.tables).bodies) ∙ l₂
+pub put_rows-requires-clause-room : goal.put_rows-requires-clause-room
+put_rows-requires-clause-room c =
+    let t = c.args.tables in
+    let fs = footprints_put t c.footprint_count.result (search rules) c.footprint_count.ensures in
+    let bs = bodies_put t c.body_count.result (search rules) c.body_count.ensures in
+    omega (arith, encode_length (list_of t), ap length fs, ap length bs, c.put_rows-at.ensures.end, c.put.auto.out, c.put_rows-at.auto.out)
 
 pub returns : goal.returns
 returns c =
-    let args = c.args in
-    let encoded_length = c.encoded_length-n in
-    let if1 = c.if-out-n in
-    let put_head = c.put_head in
-    let put_footprints = c.put_footprints-at in
-    let fits : length (encode (list_of args.tables)) ≤ length args.out.now = omega (
-      arith,
-      encoded_length.ensures,
-      if1.false,
-    ) in (
-      ap gives encoded_length.ensures ∙ answer_put (encode (list_of args.tables)) args.out.now fits,
-      c.put_bodies.ensures.1 ∙ ap (λ (k : ℕ). sets put_footprints.new.out k (joined body_bytes
-          (list_of args.tables).bodies)) put_footprints.ensures.0 ∙ ap (λ (o : List ℕ). sets o (5 + length (joined
-          footprint_bytes (list_of args.tables).footprints)) (joined body_bytes (list_of args.tables).bodies))
-          (put_footprints.ensures.1 ∙ ap (λ (o : List ℕ). sets o 5 (joined footprint_bytes (list_of
-          args.tables).footprints)) put_head.ensures) ∙ put_whole (list_of args.tables) args.out.now ∙
-          places_put (encode (list_of args.tables)) args.out.now fits,
+    let t = c.args.tables in
+    let l = list_of t in
+    let out = c.args.out.now in
+    let fs = footprints_put t c.footprint_count.result (search rules) c.footprint_count.ensures in
+    let bs = bodies_put t c.body_count.result (search rules) c.body_count.ensures in
+    let fits : length (encode l) ≤ length out = omega arith in
+    let head : c.put.new.out ≡ sets out 0 (head_bytes l) =
+    c.put.ensures ∙ ap (sets out 0) (head_put t c.footprint_count.result c.body_count.result (search rules) (search rules) c.footprint_count.ensures c.body_count.ensures) in
+    let footprints : c.put_rows-at.new.out ≡ sets c.put.new.out 5 (joined footprint_bytes l.footprints) =
+    c.put_rows-at.ensures.places ∙ ap (sets c.put.new.out 5) fs in
+    let at : c.put_rows-at.result ≡ 5 + length (joined footprint_bytes l.footprints) =
+    c.put_rows-at.ensures.end ∙ ap (λ (b : List ℕ). 5 + length b) fs in
+    let bodies : c.put_rows.new.out ≡ sets c.put_rows-at.new.out c.put_rows-at.result (joined body_bytes l.bodies) =
+    c.put_rows.ensures.places ∙ ap (sets c.put_rows-at.new.out c.put_rows-at.result) bs in (
+      ap gives c.encoded_length-n.ensures ∙ answer_put (encode l) out fits,
+      bodies ∙ (rw (at, footprints, head) (put_whole l out)) ∙ places_put (encode l) out fits,
     )

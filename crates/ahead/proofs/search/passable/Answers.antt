@@ -1,30 +1,24 @@
 -- By the rows of the model's table.
--- Assumes nothing.
-use mathlib.Core.Path.{sym, ap, ◌∙◌}
+use Rattle.std.proofs.Common.{sym, ap, ◌∙◌, arith}
 use Rattle.semantics.specs.Access.{compatible}
-use Rattle.ahead.proofs.SearchLaws.{none_ahead, read_ahead, write_ahead, none_passes_sum, sum_ahead, other_ahead}
+use Rattle.ahead.proofs.SearchLaws.{none_ahead, read_ahead, write_ahead, none_or_sum_ahead, other_asked, other_ahead}
 use Rattle.ahead.proofs.search.passable.Goals as goal
 
-pub returns-then-mode-eq0 : goal.returns-then-mode-eq0
-returns-then-mode-eq0 c = none_ahead c.args.asked ∙ ap (λ m. compatible m c.args.asked) (sym c.if-mode-eq0.true)
+pub returns-in-0 : goal.returns-in-0
+returns-in-0 c = none_ahead c.args.asked ∙ ap (λ m. compatible m c.args.asked) (sym c.in-0.is)
 
-pub returns-then-mode-eq1 : goal.returns-then-mode-eq1
-returns-then-mode-eq1 c = read_ahead c.args.asked ∙ ap (λ m. compatible m c.args.asked) (sym c.if-mode-eq1.true)
+pub returns-in-1 : goal.returns-in-1
+returns-in-1 c = read_ahead c.args.asked ∙ ap (λ m. compatible m c.args.asked) (sym c.in-1.is)
 
-pub returns-then-mode-eq2 : goal.returns-then-mode-eq2
-returns-then-mode-eq2 c = write_ahead c.args.asked ∙ ap (λ m. compatible m c.args.asked) (sym c.if-mode-eq2.true)
+pub returns-in-2 : goal.returns-in-2
+returns-in-2 c = write_ahead c.args.asked ∙ ap (λ m. compatible m c.args.asked) (sym c.in-2.is)
 
-pub returns-then-asked-eq0 : goal.returns-then-asked-eq0
-returns-then-asked-eq0 c =
-    let a = c.args in
-    none_passes_sum ∙ ap (λ m. compatible m 0) (sym c.if-mode-eq3.true) ∙ ap (compatible a.mode) (sym c.if-asked-eq0.true)
+pub returns-in-0-matches : goal.returns-in-0-matches
+returns-in-0-matches c = none_or_sum_ahead c.args.asked c.in-0-matches.is ∙ ap (λ m. compatible m c.args.asked) (sym c.in-3.is)
 
-pub returns-then-mode-eq3 : goal.returns-then-mode-eq3
-returns-then-mode-eq3 c =
-    let a = c.args in
-    sum_ahead a.asked c.if-asked-eq0.false ∙ ap (λ m. compatible m a.asked) (sym c.if-mode-eq3.true)
+pub returns-in_default-matches : goal.returns-in_default-matches
+returns-in_default-matches c =
+    other_asked c.args.asked (λ q. grind arith) (λ q. grind arith) ∙ ap (λ m. compatible m c.args.asked) (sym c.in-3.is)
 
-pub returns : goal.returns
-returns c =
-    let a = c.args in
-    other_ahead a.mode a.asked c.if-mode-eq0.false c.if-mode-eq1.false c.if-mode-eq2.false c.if-mode-eq3.false
+pub returns-in_default : goal.returns-in_default
+returns-in_default c = other_ahead c.args.mode c.args.asked (omega arith)

@@ -1,63 +1,44 @@
--- None of the first i of the order is a writer.
--- Assumes nothing.
-use Prim.Native.Nat.{◌+◌}
-use mathlib.Core.Path.{◌≡◌, sym, ap, ◌∙◌}
-use native.Mathlib.Omega.{arith}
-use Rattle.ahead.specs.Ahead.{accesses_of}
-use Rattle.ahead.proofs.SearchLaws.{searched, searched_none, searched_all, searched_whole, searched_writer, searched_pass, searched_other}
-use borrow.Author.Rules.{rules}
+-- None of the first of the order is a writer.
+use Rattle.std.proofs.Common.{◌<◌, ◌∙◌, length, take, ap, arith}
+use Rattle.ahead.specs.Ahead.{accesses_of, searched_ahead}
+use Rattle.ahead.proofs.SearchLaws.{searched_none, searched_all, searched_writer, searched_pass, searched_other, up_to}
 use Rattle.ahead.proofs.search.search_ahead.Goals as goal
+use Rattle.ahead.proofs.search.search_ahead.Goals.{in-Others, in-Free}
 
-pub loop-i-init : goal.loop-i-init
-loop-i-init c =
-    let a = c.args in
-    (search rules, λ len rows. searched_none a.modes.now a.order.now a.at (accesses_of a.wanted))
-
-pub returns-then-at-i : goal.returns-then-at-i
-returns-then-at-i c =
-    λ len rows.
-    let a = c.args in
-    let at = c.loop-i in
-    searched_all a.modes.now a.order.now a.at (accesses_of a.wanted) at.others at.i c.without_writer.result
-    c.without_writer.ensures (at.invariant.1 len rows) c.if-at-i.true
+pub loop-place-init : goal.loop-place-init
+loop-place-init c = let a = c.args in λ len. searched_none a.modes.now (accesses_of a.wanted.now) (take c.min.result a.order.now)
 
 pub returns-in-Writer : goal.returns-in-Writer
 returns-in-Writer c =
-    λ len rows.
+    λ all len.
     let a = c.args in
-    let at = c.loop-i in
-    searched_writer a.modes.now a.order.now a.at (accesses_of a.wanted) len at.others at.i c.wide.result
-    (omega arith) c.if-at-i.false c.wide.ensures.0 (at.invariant.1 len rows)
-    c.hold_of-hold.result (c.hold_of-hold.ensures rows) c.in-Writer.is
+    let gs = accesses_of a.wanted.now in
+    let at = c.loop-place in
+    searched_writer a.modes.now gs (take c.min.result a.order.now) at.hold at.place (at.invariant len)
+    c.from.result (omega arith) c.from.ensures c.hold_of.result (c.hold_of.ensures len) c.in-Writer.is
+    ∙ ap (λ tasks. searched_ahead a.modes.now tasks gs) (up_to a.at c.min.result a.order.now all c.min.ensures)
 
-pub loop-i-preserved-in-Others : goal.loop-i-preserved-in-Others
-loop-i-preserved-in-Others c =
+pub loop-place-preserved : goal.loop-place-preserved
+loop-place-preserved c =
+    λ len.
     let a = c.args in
-    let at = c.loop-i in (
-      search rules,
-      λ len rows.
-          searched_other a.modes.now a.order.now a.at (accesses_of a.wanted) len at.others at.i c.wide.result
-          (omega arith) c.if-at-i.false c.wide.ensures.0 (at.invariant.1 len rows)
-          c.hold_of-hold.result (c.hold_of-hold.ensures rows) c.in-Others.is,
-    )
-
-pub loop-i-preserved : goal.loop-i-preserved
-loop-i-preserved c =
-    let a = c.args in
-    let at = c.loop-i in (
-      search rules,
-      λ len rows.
-          searched_pass a.modes.now a.order.now a.at (accesses_of a.wanted) len at.others at.i c.wide.result
-          (omega arith) c.if-at-i.false c.wide.ensures.0 (at.invariant.1 len rows)
-          c.hold_of-hold.result (c.hold_of-hold.ensures rows) c.in-Free.is,
-    )
+    let gs = accesses_of a.wanted.now in
+    let at = c.loop-place in
+    let inside : at.place < length (take c.min.result a.order.now) = omega arith in
+    elim c.match-hold_of.branch [
+      | in-Others w ↦
+          searched_other a.modes.now gs (take c.min.result a.order.now) at.hold at.place (at.invariant len) c.from.result inside
+          c.from.ensures c.hold_of.result (c.hold_of.ensures len) c.match-hold_of.hold w.in-Others.is w.hold-is
+      | in-Free w ↦
+          searched_pass a.modes.now gs (take c.min.result a.order.now) at.hold at.place (at.invariant len) c.from.result inside
+          c.from.ensures c.hold_of.result (c.hold_of.ensures len) c.match-hold_of.hold w.in-Free.is w.hold-is
+    ]
 
 pub returns : goal.returns
 returns c =
-    λ len rows.
+    λ all len.
     let a = c.args in
-    let at = c.loop-i in
-    let all : at.i ≡ 128 = omega arith in
-    ap (λ i. searched c.without_writer-2.result (i + 1)) (sym all)
-    ∙ searched_whole a.modes.now a.order.now a.at (accesses_of a.wanted) at.others at.i c.without_writer-2.result
-    c.without_writer-2.ensures (at.invariant.1 len rows) len (omega arith)
+    let gs = accesses_of a.wanted.now in
+    let at = c.loop-place in
+    searched_all a.modes.now gs (take c.min.result a.order.now) at.hold at.place (at.invariant len) (omega arith)
+    ∙ ap (λ tasks. searched_ahead a.modes.now tasks gs) (up_to a.at c.min.result a.order.now all c.min.ensures)

@@ -1,24 +1,12 @@
--- The numbers from place i on are all that is left to test.
--- Assumes nothing.
-use mathlib.Core.Path.{sym, ◌∙◌}
-use native.Mathlib.Omega.{arith}
-use Rattle.fresh.proofs.OpenLaws.{every_more, every_stops, every_ends}
-use borrow.Author.Rules.{rules}
+use Rattle.std.proofs.Common.{◌∙◌, rules, tests}
+use Rattle.std.proofs.lemmas.Iterator.{YieldsList-from_slice}
+use Rattle.std.proofs.lemmas.Iterator.Search.{all_from_yields_List}
+use Rattle.semantics.specs.Run.{is_weight}
+use Rattle.fresh.proofs.WeightLaws.{every_is_all}
 use Rattle.fresh.proofs.opening.all_weights.Goals as goal
-
-pub loop-i-preserved : goal.loop-i-preserved
-loop-i-preserved c =
-    let l = c.loop-i in
-    let ws = c.args.numbers.now in
-    (search rules, every_more ws l.i (search rules) (sym c.is_weight.ensures ∙ c.if-is_weight.true) l.invariant.1)
-
-pub returns-else-is_weight : goal.returns-else-is_weight
-returns-else-is_weight c =
-    let l = c.loop-i in
-    let ws = c.args.numbers.now in
-    sym (every_stops ws l.i (search rules) (sym c.is_weight.ensures ∙ c.if-is_weight.false) l.invariant.1)
 
 pub returns : goal.returns
 returns c =
-    let l = c.loop-i in
-    sym (every_ends c.args.numbers.now l.i (omega (arith, c.loop-i-test.false)) l.invariant.1)
+    let ws = c.args.numbers.now in
+    all_from_yields_List is_weight _ _ _ c.all.ensures.ran (YieldsList-from_slice ws cc) (λ x b q k. search (rules, tests))
+    ∙ every_is_all ws

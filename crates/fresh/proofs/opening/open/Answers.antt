@@ -1,53 +1,46 @@
 -- As check, then the memory's length, then the table of weights; else the fresh run.
 -- Assumes nothing.
-use mathlib.Core.List.{[]}
-use native.Mathlib.Omega.{arith}
-use Rattle.fresh.proofs.OpenLaws.{few_locations, answers_refused, read_list, answers_unfit, answers_table, answers_weight, answers_open}
-use borrow.Author.Rules.{rules}
+use Rattle.std.proofs.Common.{arith}
+use Rattle.fresh.proofs.OpenLaws.{listed, few_locations, answers_refused, answers_unfit, answers_table, answers_weight, answers_open}
 use Rattle.fresh.proofs.opening.open.Goals as goal
+
+pub returns-in_err-tables : goal.returns-in_err-tables
+returns-in_err-tables c =
+    let a = c.args in
+    answers_refused a.list.now a.memory.now a.weights.now c.in_err-tables.field-0.0 c.in_err-tables.ensures c.from_residual.result
+    c.from_residual.ensures.1
 
 pub returns-then-memory-locations : goal.returns-then-memory-locations
 returns-then-memory-locations c =
     let a = c.args in
-    let read = c.read-reading in
-    answers_unfit a.list.now a.memory.now a.weights.now read.result read.ensures c.in-Count.field-0 c.in-Count.is
-    c.if-memory-locations.true c.refusal-then-memory-locations.result c.refusal-then-memory-locations.ensures
+    let t = c.in_ok-tables.tables in
+    let list = listed a.list.now t c.in_ok-tables.ensures in
+    answers_unfit a.list.now a.memory.now a.weights.now t list (λ e. c.if-memory-locations.true (cc))
 
 pub returns-then-weights-ne15 : goal.returns-then-weights-ne15
 returns-then-weights-ne15 c =
     let a = c.args in
-    let read = c.read-reading in
-    answers_table a.list.now a.memory.now a.weights.now read.result read.ensures c.in-Count.field-0 c.in-Count.is
-    (search rules) c.if-weights-ne15.true c.refusal-then-weights-ne15.result c.refusal-then-weights-ne15.ensures
+    let t = c.in_ok-tables.tables in
+    let list = listed a.list.now t c.in_ok-tables.ensures in
+    answers_table a.list.now a.memory.now a.weights.now t list (cc) c.if-weights-ne15.true
 
-pub initial-run-requires : goal.initial-run-requires
-initial-run-requires c =
-    let bytes = c.args.list.now in
-    let read = c.read-reading in
-    let listed = read_list bytes [] [] read.result read.ensures c.in-Count.field-0 c.in-Count.is in
-    (search rules, few_locations bytes read.result.tables listed)
-
-pub returns-then-all_weights : goal.returns-then-all_weights
-returns-then-all_weights c =
+pub returns-then-not-all_weights : goal.returns-then-not-all_weights
+returns-then-not-all_weights c =
     let a = c.args in
-    let read = c.read-reading in
-    let tested = c.all_weights in
-    answers_open a.list.now a.memory.now a.weights.now read.result read.ensures c.in-Count.field-0 c.in-Count.is
-    (search rules) (search rules) tested.result tested.ensures (search rules)
-    (λ k. omega (arith, c.shared_slice_known-2-1.given k)) c.table_of-table.result c.table_of-table.ensures c.initial-run.result
-    c.initial-run.ensures
+    let t = c.in_ok-tables.tables in
+    let list = listed a.list.now t c.in_ok-tables.ensures in
+    answers_weight a.list.now a.memory.now a.weights.now t list (cc) c.if-weights-ne15.false (cc)
 
-pub returns-in-Refused : goal.returns-in-Refused
-returns-in-Refused c =
-    let a = c.args in
-    let read = c.read-reading in
-    answers_refused a.list.now a.memory.now a.weights.now read.result read.ensures c.in-Refused.k
-    c.in-Refused.is c.refusal.result c.refusal.ensures
+pub initial-requires : goal.initial-requires
+initial-requires c =
+    let t = c.in_ok-tables.tables in
+    let list = listed c.args.list.now t c.in_ok-tables.ensures in
+    (cc, few_locations c.args.list.now t list)
 
-pub returns-else-all_weights : goal.returns-else-all_weights
-returns-else-all_weights c =
+pub returns : goal.returns
+returns c =
     let a = c.args in
-    let read = c.read-reading in
-    let tested = c.all_weights in
-    answers_weight a.list.now a.memory.now a.weights.now read.result read.ensures c.in-Count.field-0 c.in-Count.is
-    (search rules) (search rules) tested.result tested.ensures (search rules) c.refusal-in-Count.result c.refusal-in-Count.ensures
+    let t = c.in_ok-tables.tables in
+    let list = listed a.list.now t c.in_ok-tables.ensures in
+    answers_open a.list.now a.memory.now a.weights.now t list (cc) c.if-weights-ne15.false (cc)
+    (λ k. omega (arith, c.type_inv.memory k)) c.initial.result (rw (← c.table_of-table.ensures) c.initial.ensures)

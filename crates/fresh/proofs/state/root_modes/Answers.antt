@@ -1,17 +1,12 @@
--- The first modes are write.
--- Assumes nothing.
-use Prim.Native.Nat.{ℕ, ◌-◌}
-use mathlib.Core.Path.{◌≡◌, ap, ◌∙◌}
-use mathlib.Core.List.{◌++◌}
-use native.Mathlib.Omega.{arith}
-use lib.ListN.{set, replicate}
-use Rattle.fresh.proofs.StateLaws.{started_with}
+-- The first modes are filled, the others stay. Assumes nothing.
+use Rattle.std.proofs.Common.{ℕ, ◌≤◌, ◌≡◌, ◌-◌, ◌++◌, List, length, take, drop, replicate, arith}
+use Rattle.std.proofs.lemmas.List.{drop-replicate, take-replicate, length-replicate}
 use Rattle.fresh.proofs.state.root_modes.Goals as goal
 
-pub loop-a-preserved : goal.loop-a-preserved
-loop-a-preserved c = (omega arith, ap (λ m. set m c.loop-a.a 2) c.loop-a.invariant.1 ∙ started_with 8192 c.loop-a.a 2 0 (omega arith))
+front_filled :
+    (n : ℕ) (front : List ℕ) → n ≤ 64 → front ≡ replicate (length (take n (replicate {A = ℕ} 8192 0))) 2
+    → front ++ drop n (replicate 8192 0) ≡ replicate n 2 ++ replicate (8192 - n) 0
+front_filled n front few e = let below : n ≤ 8192 = omega arith in rw (e, take-replicate {X = ℕ} n 8192 0, length-replicate, drop-replicate)
 
 pub returns : goal.returns
-returns c =
-    let q : c.loop-a.a ≡ c.args.locations = omega arith in
-    c.loop-a.invariant.1 ∙ ap (λ (k : ℕ). replicate k 2 ++ replicate (8192 - k) 0) q
+returns c = front_filled c.args.locations c.fill.new.self c.requires (c.fill.ensures.after (λ y q. q))

@@ -1,26 +1,24 @@
--- Nothing, the line of a failed open, or the run's. Assumes nothing.
-use native.Mathlib.Omega.{arith}
-use mathlib.Core.Path.{sym, ◌∙◌}
+-- Nothing, the line of a failed open, or the run's.
+-- Assumes nothing.
+use Rattle.std.proofs.Common.{subst, sym}
+use Rattle.host_bill.specs.Promises.{BillPrinted}
 use Rattle.host_bill.proofs.BillLaws.{bill_short, bill_refused, bill_run}
 use Rattle.host_bill.proofs.lines.bill_lines.Goals as goal
 
 pub returns-then-out-lt-ROOM : goal.returns-then-out-lt-ROOM
-returns-then-out-lt-ROOM c =
-    let a = c.args in
-    bill_short a.opened a.bill a.out.now c.if-out-lt-ROOM.true
+returns-then-out-lt-ROOM c = bill_short c.args.bill c.args.out.now c.args.opened c.if-out-lt-ROOM.true
 
-pub returns-then-refusal-gt0 : goal.returns-then-refusal-gt0
-returns-then-refusal-gt0 c =
+pub returns-in-Ok : goal.returns-in-Ok
+returns-in-Ok c =
     let a = c.args in
-    let number = c.open_number-refusal in
-    let put = c.put_refused in
-    bill_refused a.opened a.bill a.out.now c.if-out-lt-ROOM.false put.new.out put.result number.result number.ensures.0
-    c.if-refusal-gt0.true put.ensures.put put.ensures.most
-
-pub returns : goal.returns
-returns c =
-    let a = c.args in
-    let number = c.open_number-refusal in
     let put = c.put_bill in
-    bill_run a.opened a.bill a.out.now c.if-out-lt-ROOM.false put.new.out put.result
-    (sym number.ensures.0 ∙ omega (arith, c.if-refusal-gt0.false)) put.ensures
+    subst (λ o. BillPrinted o a.bill a.out.now put.new.out put.result) (sym c.in-Ok.is)
+    (bill_run a.bill a.out.now c.if-out-lt-ROOM.false put.new.out put.result c.in-Ok.run' put.ensures)
+
+pub returns-in-Err : goal.returns-in-Err
+returns-in-Err c =
+    let a = c.args in
+    let put = c.put_refused in
+    subst (λ o. BillPrinted o a.bill a.out.now put.new.out put.result) (sym c.in-Err.is)
+    (bill_refused a.bill a.out.now c.if-out-lt-ROOM.false put.new.out put.result c.in-Err.refusal c.from.result c.from.ensures
+    put.ensures.put put.ensures.most)

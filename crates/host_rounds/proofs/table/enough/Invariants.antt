@@ -1,5 +1,6 @@
-use Prim.Native.Nat.{◌-◌, ◌≤◌}
-use mathlib.Core.Path.{◌≡◌}
+-- The answer is that of the numbers of workers that are still to be looked at.
+-- Assumes nothing.
+use Rattle.std.proofs.Common.{◌≡◌}
 use Rattle.host_rounds.specs.Lines.{enough_from}
 use Rattle.host_rounds.specs.Promises.{rounds_at}
 use Rattle.host_rounds.proofs.LineLaws.{enough_left}
@@ -7,7 +8,4 @@ use Rattle.host_rounds.proofs.table.enough.Given as goal
 
 abbrev pub invariant-loop-i : goal.invariant-loop-i
 invariant-loop-i l =
-    (l.i ≤ 16) × (enough_from 16 1 l.table.span (rounds_at l.table) ≡ enough_left l.table.span (rounds_at l.table) l.i)
-
-abbrev pub decreases-loop-i : goal.decreases-loop-i
-decreases-loop-i l = 16 - l.i
+    enough_from 16 1 l.fn.table.span (rounds_at l.fn.table) ≡ enough_left l.fn.table.span (rounds_at l.fn.table) l.i

@@ -1,44 +1,30 @@
 -- The workers are tested, then open is asked, then the rounds are counted twice. Assumes nothing.
-use mathlib.Core.Path.{refl}
-use native.Mathlib.Omega.{arith}
-use Rattle.run_rounds.proofs.ReportLaws.{refused_alone, too_few, too_many, not_opened, counted}
+use Rattle.std.proofs.Common.{sym, arith}
+use Rattle.std.proofs.lemmas.Result.{err_from_is_err_and}
+use Rattle.run_rounds.proofs.ReportLaws.{too_few, too_many, not_opened, reports_with}
+use Rattle.run_rounds.proofs.counting.publication_rounds.Goals.{then-workers-lt1-via-then-workers-lt1, then-workers-lt1-via-else-workers-lt1+then-workers-gt-MOST_WORKERS}
 use Rattle.run_rounds.proofs.counting.publication_rounds.Goals as goal
 
 pub returns-then-workers-lt1 : goal.returns-then-workers-lt1
 returns-then-workers-lt1 c =
     let a = c.args in
-    let none = c.refusal in
-    record {
-      report = too_few a.workers a.list.now a.memory.now a.weights.now c.if-workers-lt1.true none.result none.ensures.answer;
-      alone = refused_alone none.result.answer none.result none.ensures.alone;
-    }
+    elim c.then-workers-lt1.branch [
+      | then-workers-lt1-via-then-workers-lt1 w ↦ too_few a.workers a.list.now a.memory.now a.weights.now w.if-workers-lt1.true
+      | then-workers-lt1-via-else-workers-lt1+then-workers-gt-MOST_WORKERS w ↦
+          too_many a.workers a.list.now a.memory.now a.weights.now w.if-workers-gt-MOST_WORKERS.true
+    ]
 
-pub returns-then-workers-gt-MOST_WORKERS : goal.returns-then-workers-gt-MOST_WORKERS
-returns-then-workers-gt-MOST_WORKERS c =
+pub returns-in_err-fresh : goal.returns-in_err-fresh
+returns-in_err-fresh c =
     let a = c.args in
-    let none = c.refusal-then-workers-gt-MOST_WORKERS in
-    record {
-      report = too_many a.workers a.list.now a.memory.now a.weights.now c.if-workers-gt-MOST_WORKERS.true none.result none.ensures.answer;
-      alone = refused_alone none.result.answer none.result none.ensures.alone;
-    }
-
-pub returns-then-fresh-eq0 : goal.returns-then-fresh-eq0
-returns-then-fresh-eq0 c =
-    let a = c.args in
-    let none = c.refusal-then-fresh-eq0 in
-    record {
-      report = not_opened a.workers a.list.now a.memory.now a.weights.now (omega (arith, c.if-workers-lt1.false))
-          (omega (arith, c.if-workers-gt-MOST_WORKERS.false)) c.open-opened.result c.open-opened.ensures c.if-fresh-eq0.true none.result
-          none.ensures.answer;
-      alone = refused_alone none.result.answer none.result none.ensures.alone;
-    }
+    let p = err_from_is_err_and c.from_residual.result c.from_residual.ensures.1 in
+    rw (p.1, p.2)
+    (not_opened a.workers a.list.now a.memory.now a.weights.now (omega (arith, c.if-workers-lt1.false)) (omega (arith, c.if-workers-gt-MOST_WORKERS.false))
+    c.in_err-fresh.field-0.0 c.in_err-fresh.ensures)
 
 pub returns : goal.returns
 returns c =
     let a = c.args in
-    record {
-      report = counted a.workers a.list.now a.memory.now a.weights.now (omega (arith, c.if-workers-lt1.false))
-          (omega (arith, c.if-workers-gt-MOST_WORKERS.false)) c.open-opened.result c.open-opened.ensures c.if-fresh-eq0.false
-          c.tally-asked.result c.tally-whole.result c.tally-asked.ensures c.tally-whole.ensures _ refl;
-      alone = tt;
-    }
+    sym
+    (reports_with a.workers a.list.now a.memory.now a.weights.now (omega (arith, c.if-workers-lt1.false)) (omega (arith, c.if-workers-gt-MOST_WORKERS.false))
+    c.in_ok-fresh.fresh c.in_ok-fresh.ensures c.tally-asked.result c.tally-whole.result c.tally-asked.ensures c.tally-whole.ensures)

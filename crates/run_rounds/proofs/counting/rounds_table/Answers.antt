@@ -1,30 +1,20 @@
 -- Place by place: the tallies of 1 to 16 workers, then the span. Assumes nothing.
-use mathlib.Core.Path.{◌≡◌, refl, subst}
-use native.Mathlib.Omega.{arith}
-use Rattle.run_rounds.proofs.TableLaws.{Filled, filled_none, filled_more, no_table, whole_table}
+use Rattle.std.proofs.Common.{◌≡◌, subst, arith}
+use Rattle.run_rounds.proofs.TableLaws.{Filled, filled_none, filled_more, whole_table}
 use Rattle.run_rounds.proofs.counting.rounds_table.Goals as goal
 
-pub returns-then-fresh-eq0 : goal.returns-then-fresh-eq0
-returns-then-fresh-eq0 c =
+pub loop-place-init : goal.loop-place-init
+loop-place-init c = filled_none c.in_ok-run.run'
+
+pub loop-place-preserved : goal.loop-place-preserved
+loop-place-preserved c =
+    let l = c.loop-place in
+    filled_more c.in_ok-run.run' l.reports l.place l.invariant c.loop-place-test.true c.tally.result c.tally.ensures
+
+pub returns-clause-reports : goal.returns-clause-reports
+returns-clause-reports c =
     let a = c.args in
-    let table = no_table a.list.now a.memory.now a.weights.now c.open-opened.result c.open-opened.ensures c.if-fresh-eq0.true _ refl in
-    record { size = table.0; reports = table.1 }
-
-pub loop-i-init : goal.loop-i-init
-loop-i-init c = filled_none c.open-opened.result.run
-
-pub loop-i-preserved : goal.loop-i-preserved
-loop-i-preserved c =
-    let l = c.loop-i in
-    let fresh = c.open-opened.result.run in
-    filled_more fresh l.rounds l.calls l.i l.invariant c.loop-i-test.true c.tally-asked.result c.tally-asked.ensures
-
-pub returns : goal.returns
-returns c =
-    let l = c.loop-i in
-    let a = c.args in
-    let full : l.i ≡ 16 = omega (arith, l.invariant.within, c.loop-i-test.false) in
-    let table =
-    whole_table a.list.now a.memory.now a.weights.now c.open-opened.result c.open-opened.ensures c.if-fresh-eq0.false l.rounds l.calls
-    (subst (Filled c.open-opened.result.run l.rounds l.calls) full l.invariant) c.tally-span.result c.tally-span.ensures _ refl in
-    record { size = table.0; reports = table.1 }
+    let l = c.loop-place in
+    let full : l.place ≡ 16 = omega arith in
+    whole_table a.list.now a.memory.now a.weights.now c.in_ok-run.run' c.in_ok-run.ensures l.reports
+    (subst (Filled c.in_ok-run.run' l.reports) full l.invariant) c.tally-span.result c.tally-span.ensures

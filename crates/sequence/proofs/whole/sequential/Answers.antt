@@ -1,20 +1,14 @@
-use Rattle.sequence.specs.Replays.{joined}
 use Rattle.sequence.proofs.SequentialLaws.{sequential_refused, sequential_made}
 use Rattle.sequence.proofs.whole.sequential.Goals as goal
 
--- src/whole.rt:93:9
-pub returns-then-fresh-eq0 : goal.returns-then-fresh-eq0
-returns-then-fresh-eq0 c =
+pub returns-in_err-run : goal.returns-in_err-run
+returns-in_err-run c =
     let a = c.args in
-    let opened = c.open-opened in
-    sequential_refused a.list.now a.memory.now a.weights.now opened.result opened.ensures c.if-fresh-eq0.true
+    sequential_refused a.list.now a.memory.now a.weights.now c.in_err-run.field-0.0 c.in_err-run.ensures c.from_residual.result
+    c.from_residual.ensures.1
 
--- src/whole.rt:86:1
 pub returns : goal.returns
 returns c =
     let a = c.args in
-    let opened = c.open-opened in
-    let bodies = c.body_count-bodies in
-    let done = c.run_whole-done in
-    sequential_made a.list.now a.memory.now a.weights.now opened.result opened.ensures c.if-fresh-eq0.false bodies.result bodies.ensures
-    (joined opened.result.run.tables opened.result.run.weights done.result done.new.memory done.new.modes done.new.order) done.ensures
+    sequential_made a.list.now a.memory.now a.weights.now c.in_ok-run.run' c.in_ok-run.ensures c.body_count-bodies.result
+    c.body_count-bodies.ensures c.run_whole.new.run c.run_whole.ensures

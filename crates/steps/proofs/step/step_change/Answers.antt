@@ -1,155 +1,81 @@
 -- Refused before the instruction is looked at, or what the plan of the instruction comes to.
 -- Assumes nothing.
-use Prim.Native.Nat.{ℕ, ◌+◌, ◌*◌, ◌<◌, min}
-use mathlib.Core.Path.{◌≡◌, subst, ◌∙◌}
-use native.Mathlib.Omega.{arith}
-use lib.ListN.{length, take, get_or}
-use Rattle.tasklist.specs.declared.Instruction.{Instruction}
-use Rattle.tasklist.specs.TaskList.{body_of}
-use Rattle.tasklist.specs.Tables.{list_of, blank_cell}
-use Rattle.listing.proofs.AccessLaws.{body_size_is, instruction_is}
-use Rattle.looks.specs.declared.Located.TheVariants.{At}
-use Rattle.looks.specs.Looks.{ReadyIn}
+use Rattle.std.proofs.Common.{◌≡◌, ◌+◌, ◌*◌, Ok, Err, length, get_or, ap, ◌∙◌, arith, rules}
+use Rattle.tasklist.specs.Tables.{blank_cell}
+use Rattle.listing.proofs.AccessLaws.{instruction_is}
+use Rattle.semantics.specs.Answers.{fault_number}
 use Rattle.looks.proofs.LookLaws.{not_finished}
-use Rattle.steps.proofs.StepChangeLaws.{StepsBy, steps_by, change_before, change_held, change_fault, change_assign, change_pass, change_store, change_sum, change_spawn}
-use borrow.Author.Rules.{rules}
-use Rattle.steps.proofs.step.step_change.Goals.{After-row_size-size, After-weight_at, In-At, Start}
+use Rattle.records.specs.Records.{failed}
+use Rattle.steps.proofs.StepChangeLaws.{StepsBy, size_read, steps_by, change_before, change_held, change_fault, change_assign, change_pass, change_store, change_sum, change_spawn}
+use Rattle.steps.proofs.step.step_change.Goals.{After-plan_of}
 use Rattle.steps.proofs.step.step_change.Goals as goal
 
--- the arrays of the tables are whole
-sizes_whole : (c : Start) → length c.args.tables.sizes ≡ 32
-sizes_whole c = search rules
-
-cells_whole : (c : Start) → length c.args.tables.cells ≡ 1024
-cells_whole c = c.well_formed.0.1.1.1.1.1.1.1.1.0.1.0.1
-
--- the size that was read is the body's
-size_is :
-    (c : After-row_size-size)
-    → let a = c.args in c.row_size-size.result ≡ length (body_of (list_of a.tables) a.own.body)
-size_is c =
-    let a = c.args in
-    ◌∙◌ {b = min (get_or (take (min a.tables.bodies 32) a.tables.sizes) a.own.body 0) 32} c.row_size-size.ensures.0
-    (body_size_is a.tables a.own.body (sizes_whole c.before.before.before) (cells_whole c.before.before.before))
-
--- where the task's place was found
-abbrev start_of : In-At → Start
-start_of c = c.before.before.before.before.before
-
-abbrev size-at : In-At → ℕ
-size-at c = c.row_size-size.result
-
-abbrev place_at : In-At → ℕ
-place_at c = c.in-At.place
-
-ready :
-    (c : In-At)
-    → let a = (start_of c).args in ReadyIn a.order.now a.left a.own (size-at c) a.task (At (place_at c))
-ready c =
-    let a = (start_of c).args in
-    subst (ReadyIn a.order.now a.left a.own (size-at c) a.task) c.in-At.is c.step_look-found.ensures
-
--- the instruction's place is within the body
-within : (c : In-At) → (start_of c).args.own.pc < size-at c
-within c = not_finished (size-at c) (start_of c).args.own (ready c).2
-
-cell_below : (c : In-At) → 32 * (start_of c).args.own.body + (start_of c).args.own.pc < 1024
-cell_below c =
-    let size = c.row_size-size.ensures in
-    let body : (start_of c).args.own.body < 32 = size.2 (omega (arith, within c)) in
-    omega (arith, within c, size.1, body)
-
 -- what the plan of the instruction says
-abbrev found_of : After-weight_at → In-At
-found_of c = c.before.before.before.before.before.before.before.before
-
-abbrev instruction-at : In-At → Instruction
-instruction-at c =
-    let a = (start_of c).args in
-    (get_or a.tables.cells (32 * a.own.body + a.own.pc) blank_cell).instruction
-
 there :
-    (c : After-weight_at)
-    → let a = (start_of (found_of c)).args in
-    StepsBy a.tables a.memory.now a.modes.now a.order.now a.left a.own a.task a.weights (place_at (found_of c))
-    (c.units_of-count.result * c.weight_at.result) c.plan_of-plan.result
+    (c : After-plan_of)
+    → let a = c.args in
+    StepsBy a.tables a.memory.now a.modes.now a.order.now a.left a.own a.task a.weights c.in_ok-place.place
+    (c.units_of.result * c.weight_at.result) c.plan_of.result
 there c =
-    let f = found_of c in
-    let s = start_of f in
-    let a = s.args in
-    let fits = size_is f.before.before in
-    let code = c.code_of-code in
-    steps_by a.tables a.memory.now a.modes.now a.order.now a.left a.own a.task a.weights (size-at f) fits (place_at f) (ready f)
-    (instruction-at f)
-    (instruction_is a.tables a.own.body (sizes_whole s) (cells_whole s) a.own.pc (omega (arith, within f, fits)) blank_cell)
-    code.result code.ensures.0 c.plan_of-plan.result c.plan_of-plan.ensures
-    c.units_of-count.result c.units_of-count.ensures.0 c.units_of-count.ensures.1
+    let a = c.args in
+    let sizes_whole : length a.tables.sizes ≡ 32 = search rules in
+    let cells_whole : length a.tables.cells ≡ 1024 = search rules in
+    let fits = size_read a.tables c.from-body.result a.own.body sizes_whole cells_whole c.from-body.ensures c.row_size-size.result c.row_size-size.ensures.0 in
+    let within = not_finished c.row_size-size.result a.own c.in_ok-place.ensures.2 in
+    steps_by a.tables a.memory.now a.modes.now a.order.now a.left a.own a.task a.weights c.row_size-size.result fits c.in_ok-place.place c.in_ok-place.ensures
+    _ (ap (λ b. (get_or a.tables.cells (32 * b + a.own.pc) blank_cell).instruction) c.from-body.ensures
+    ∙ instruction_is a.tables a.own.body sizes_whole cells_whole a.own.pc (omega (arith, within, fits)) blank_cell)
+    c.code_of-code.result c.code_of-code.ensures.0 c.plan_of.result c.plan_of.ensures
+    c.units_of.result c.units_of.ensures.0 c.units_of.ensures.1
     c.weight_at.result c.weight_at.ensures.0 c.weight_at.ensures.1
 
-pub bounds-tables-body : goal.bounds-tables-body
-bounds-tables-body c = cell_below (goal.at.bounds-tables-body c).In-At
-
-pub plan_of-plan-requires : goal.plan_of-plan-requires
-plan_of-plan-requires c =
-    ((ready (goal.at.plan_of-plan-requires c).In-At).0, c.code_of-code.ensures.0)
-
-pub overflow_mul-weight : goal.overflow_mul-weight
-overflow_mul-weight c = omega (arith, (there c).light)
-
-pub spawned-requires : goal.spawned-requires
-spawned-requires c = (ready (goal.at.spawned-requires c).In-At).0
-
-pub returns-in-Refused : goal.returns-in-Refused
-returns-in-Refused c =
+pub returns-in_err-place : goal.returns-in_err-place
+returns-in_err-place c =
     let a = c.args in
-    let size = c.row_size-size.result in
-    change_before a.tables a.memory.now a.modes.now a.order.now a.left a.own a.task a.weights size (size_is (goal.at.returns-in-Refused c).After-row_size-size)
-    c.in-Refused.refusal
-    (subst (ReadyIn a.order.now a.left a.own size a.task) c.in-Refused.is c.step_look-found.ensures)
-    c.unchanged.result c.unchanged.ensures
+    let refused =
+    change_before a.tables a.memory.now a.modes.now a.order.now a.left a.own a.task a.weights c.row_size-size.result
+    (size_read a.tables c.from-body.result a.own.body (search rules) (search rules) c.from-body.ensures c.row_size-size.result c.row_size-size.ensures.0) c.in_err-place.field-0.0 c.in_err-place.ensures in
+    search rules
 
-pub returns-in-Held : goal.returns-in-Held
-returns-in-Held c =
-    let a = (start_of (found_of (goal.at.returns-in-Held c).After-weight_at)).args in
-    change_held a.tables a.memory.now a.modes.now a.order.now a.left a.own a.task a.weights (place_at (found_of (goal.at.returns-in-Held c).After-weight_at)) (c.units_of-count.result * c.weight_at.result) c.plan_of-plan.result (there (goal.at.returns-in-Held c).After-weight_at)
-    c.in-Held.refusal c.in-Held.is c.unchanged-in-Held.result c.unchanged-in-Held.ensures
+pub returns-in-Err-Held : goal.returns-in-Err-Held
+returns-in-Err-Held c =
+    let a = c.args in
+    let held = change_held a.tables a.memory.now a.modes.now a.order.now a.left a.own a.task a.weights c.in_ok-place.place (c.units_of.result * c.weight_at.result) c.plan_of.result (there (goal.at.returns-in-Err-Held c).After-plan_of)
+    c.in-Err-Held.refusal (c.in-Err-Held.is ∙ ap Err c.in-Err-Held.field-0-is) in
+    rw c.in-Err-Held.refusal-is held
 
-pub returns-in-Fault : goal.returns-in-Fault
-returns-in-Fault c =
-    let a = (start_of (found_of (goal.at.returns-in-Fault c).After-weight_at)).args in
-    change_fault a.tables a.memory.now a.modes.now a.order.now a.left a.own a.task a.weights (place_at (found_of (goal.at.returns-in-Fault c).After-weight_at)) (c.units_of-count.result * c.weight_at.result) c.plan_of-plan.result (there (goal.at.returns-in-Fault c).After-weight_at)
-    c.in-Fault.fault c.in-Fault.is c.failed-next.result c.failed-next.ensures c.changed.result c.changed.ensures
+pub returns-in-Err-Fault : goal.returns-in-Err-Fault
+returns-in-Err-Fault c =
+    let a = c.args in
+    change_fault a.tables a.memory.now a.modes.now a.order.now a.left a.own a.task a.weights c.in_ok-place.place (c.units_of.result * c.weight_at.result) c.plan_of.result (there (goal.at.returns-in-Err-Fault c).After-plan_of)
+    c.in-Err-Fault.fault (c.in-Err-Fault.is ∙ ap Err c.in-Err-Fault.field-0-is) c.failed.result (c.failed.ensures ∙ ap (λ f. failed f a.own) (c.from.ensures ∙ ap fault_number c.in-Err-Fault.fault-is)) c.changed.result c.changed.ensures
 
-pub returns-in-Assign : goal.returns-in-Assign
-returns-in-Assign c =
-    let a = (start_of (found_of (goal.at.returns-in-Assign c).After-weight_at)).args in
-    change_assign a.tables a.memory.now a.modes.now a.order.now a.left a.own a.task a.weights (place_at (found_of (goal.at.returns-in-Assign c).After-weight_at)) (c.units_of-count.result * c.weight_at.result) c.plan_of-plan.result (there (goal.at.returns-in-Assign c).After-weight_at)
-    c.in-Assign.target c.in-Assign.value c.in-Assign.is c.passed-next.result c.holding-next.result c.passed-next.ensures.0 c.holding-next.ensures
-    c.changed-in-Assign.result c.changed-in-Assign.ensures
+pub returns-in-Ok-Assign : goal.returns-in-Ok-Assign
+returns-in-Ok-Assign c =
+    let a = c.args in
+    change_assign a.tables a.memory.now a.modes.now a.order.now a.left a.own a.task a.weights c.in_ok-place.place (c.units_of.result * c.weight_at.result) c.plan_of.result (there (goal.at.returns-in-Ok-Assign c).After-plan_of)
+    c.in-Ok-Assign.target c.in-Ok-Assign.value (c.in-Ok-Assign.is ∙ ap Ok c.in-Ok-Assign.field-0-is) c.passed.result c.holding-next.result c.passed.ensures.0 c.holding-next.ensures c.changed-in-Ok-Assign.result c.changed-in-Ok-Assign.ensures
 
-pub returns-in-Pass : goal.returns-in-Pass
-returns-in-Pass c =
-    let a = (start_of (found_of (goal.at.returns-in-Pass c).After-weight_at)).args in
-    change_pass a.tables a.memory.now a.modes.now a.order.now a.left a.own a.task a.weights (place_at (found_of (goal.at.returns-in-Pass c).After-weight_at)) (c.units_of-count.result * c.weight_at.result) c.plan_of-plan.result (there (goal.at.returns-in-Pass c).After-weight_at)
-    c.in-Pass.over c.passed-next-in-Pass.ensures.1 c.in-Pass.is c.passed-next-in-Pass.result c.passed-next-in-Pass.ensures.0 c.changed-in-Pass.result c.changed-in-Pass.ensures
+pub returns-in-Ok-Pass : goal.returns-in-Ok-Pass
+returns-in-Ok-Pass c =
+    let a = c.args in
+    change_pass a.tables a.memory.now a.modes.now a.order.now a.left a.own a.task a.weights c.in_ok-place.place (c.units_of.result * c.weight_at.result) c.plan_of.result (there (goal.at.returns-in-Ok-Pass c).After-plan_of)
+    c.in-Ok-Pass.over c.passed-in-Ok-Pass.ensures.1 (c.in-Ok-Pass.is ∙ ap Ok c.in-Ok-Pass.field-0-is) c.passed-in-Ok-Pass.result c.passed-in-Ok-Pass.ensures.0 c.changed-in-Ok-Pass.result c.changed-in-Ok-Pass.ensures
 
-pub returns-in-Store : goal.returns-in-Store
-returns-in-Store c =
-    let a = (start_of (found_of (goal.at.returns-in-Store c).After-weight_at)).args in
-    change_store a.tables a.memory.now a.modes.now a.order.now a.left a.own a.task a.weights (place_at (found_of (goal.at.returns-in-Store c).After-weight_at)) (c.units_of-count.result * c.weight_at.result) c.plan_of-plan.result (there (goal.at.returns-in-Store c).After-weight_at)
-    c.in-Store.location c.in-Store.value c.in-Store.is c.passed-next-in-Store.result c.passed-next-in-Store.ensures.0 c.store.new.memory c.store.ensures
-    c.changed-in-Store.result c.changed-in-Store.ensures
+pub returns-in-Ok-Store : goal.returns-in-Ok-Store
+returns-in-Ok-Store c =
+    let a = c.args in
+    change_store a.tables a.memory.now a.modes.now a.order.now a.left a.own a.task a.weights c.in_ok-place.place (c.units_of.result * c.weight_at.result) c.plan_of.result (there (goal.at.returns-in-Ok-Store c).After-plan_of)
+    c.in-Ok-Store.location c.in-Ok-Store.value (c.in-Ok-Store.is ∙ ap Ok c.in-Ok-Store.field-0-is) c.passed-in-Ok-Store.result c.passed-in-Ok-Store.ensures.0 c.store.new.memory c.store.ensures c.changed-in-Ok-Store.result c.changed-in-Ok-Store.ensures
 
-pub returns-in-Sum : goal.returns-in-Sum
-returns-in-Sum c =
-    let a = (start_of (found_of (goal.at.returns-in-Sum c).After-weight_at)).args in
-    change_sum a.tables a.memory.now a.modes.now a.order.now a.left a.own a.task a.weights (place_at (found_of (goal.at.returns-in-Sum c).After-weight_at)) (c.units_of-count.result * c.weight_at.result) c.plan_of-plan.result (there (goal.at.returns-in-Sum c).After-weight_at)
-    c.in-Sum.location c.in-Sum.value c.in-Sum.is c.passed-next-in-Sum.result c.passed-next-in-Sum.ensures.0 c.sum.new.memory c.sum.ensures
-    c.changed-in-Sum.result c.changed-in-Sum.ensures
+pub returns-in-Ok-Sum : goal.returns-in-Ok-Sum
+returns-in-Ok-Sum c =
+    let a = c.args in
+    change_sum a.tables a.memory.now a.modes.now a.order.now a.left a.own a.task a.weights c.in_ok-place.place (c.units_of.result * c.weight_at.result) c.plan_of.result (there (goal.at.returns-in-Ok-Sum c).After-plan_of)
+    c.in-Ok-Sum.location c.in-Ok-Sum.value (c.in-Ok-Sum.is ∙ ap Ok c.in-Ok-Sum.field-0-is) c.passed-in-Ok-Sum.result c.passed-in-Ok-Sum.ensures.0 c.sum.new.memory c.sum.ensures c.changed-in-Ok-Sum.result c.changed-in-Ok-Sum.ensures
 
-pub returns-in-Make : goal.returns-in-Make
-returns-in-Make c =
-    let a = (start_of (found_of (goal.at.returns-in-Make c).After-weight_at)).args in
-    change_spawn a.tables a.memory.now a.modes.now a.order.now a.left a.own a.task a.weights (place_at (found_of (goal.at.returns-in-Make c).After-weight_at)) (c.units_of-count.result * c.weight_at.result) c.plan_of-plan.result (there (goal.at.returns-in-Make c).After-weight_at)
-    c.in-Make.sheet c.in-Make.footprint
-    c.in-Make.first c.in-Make.children c.in-Make.is c.spawned.new.modes c.spawned.new.order c.spawned.result c.spawned.ensures
+pub returns-in-Ok-Make : goal.returns-in-Ok-Make
+returns-in-Ok-Make c =
+    let a = c.args in
+    change_spawn a.tables a.memory.now a.modes.now a.order.now a.left a.own a.task a.weights c.in_ok-place.place (c.units_of.result * c.weight_at.result) c.plan_of.result (there (goal.at.returns-in-Ok-Make c).After-plan_of)
+    c.in-Ok-Make.sheet c.in-Ok-Make.footprint c.in-Ok-Make.first c.in-Ok-Make.children (c.in-Ok-Make.is ∙ ap Ok c.in-Ok-Make.field-0-is) c.spawned.new.modes c.spawned.new.order c.spawned.result c.spawned.ensures

@@ -5,7 +5,4 @@ use Rattle.tables.proofs.children.put_children.Given as goal
 
 abbrev pub invariant-loop-i : goal.invariant-loop-i
 invariant-loop-i l =
-    ToPut l.registers l.own (footprint_of (list_of l.tables) l.footprint) l.initial.row l.left l.at l.child l.apart l.children l.initial.modes l.initial.order l.i l.count l.row l.modes l.order
-
-abbrev pub decreases-loop-i : goal.decreases-loop-i
-decreases-loop-i l = l.i
+    ToPut l.registers l.own (footprint_of (list_of l.tables) l.footprint) l.initial.row l.left l.at l.block.first l.block.apart l.block.children l.initial.modes l.initial.order l.i l.count l.row l.modes l.order

@@ -1,70 +1,25 @@
--- The number with the first i instructions counted.
+-- The number with the cells before counted.
 -- Assumes nothing.
-use Prim.Native.Nat.{◌+◌, ◌*◌, ◌<◌}
-use mathlib.Core.Path.{◌≡◌, ◌∙◌}
-use native.Mathlib.Omega.{arith}
-use lib.ListN.{length, get_or}
-use Rattle.tasklist.specs.TaskList.{body_of}
-use Rattle.tasklist.specs.Tables.{list_of, blank_cell}
-use Rattle.listing.proofs.AccessLaws.{body_size_is, instruction_is}
-use Rattle.tables.proofs.NumberLaws.{counted_none, counted_more, counted_all, counted_ahead}
-use borrow.Author.Rules.{rules}
+use Rattle.std.proofs.Common.{rules, take, refl, ap, arith}
+use Rattle.tasklist.specs.Tables.{blank_cell}
+use Rattle.tables.proofs.NumberLaws.{counted_none, counted_more, counted_all}
 use Rattle.tables.proofs.number.child_number.Goals as goal
 
-pub returns-then-task-ge128 : goal.returns-then-task-ge128
-returns-then-task-ge128 c = λ h. let z : ⊥ = omega arith in absurd z
+pub loop-cell-init : goal.loop-cell-init
+loop-cell-init c = (omega arith, counted_none c.args.tables c.args.task _)
 
-pub loop-i-init : goal.loop-i-init
-loop-i-init c =
-    let a = c.args in
-    let cells : length a.tables.cells ≡ 1024 = c.well_formed.0.1.1.1.1.1.1.1.1.0.1.0.1 in (
-      search rules,
-      c.row_size-size.ensures.0 ∙ body_size_is a.tables a.body (search rules) cells,
-      search rules,
-      c.row_size-size.ensures.2,
-      search rules,
-      search rules,
-      counted_none a.tables a.task a.body a.pc,
-    )
-
-pub returns-then-pc-i : goal.returns-then-pc-i
-returns-then-pc-i c =
-    λ h.
-    let a = c.args in
-    let at = c.loop-i in
-    counted_ahead a.tables a.task a.body a.pc at.n at.i (omega arith) at.invariant.6
-
-pub overflow_mul-cell : goal.overflow_mul-cell
-overflow_mul-cell c = omega (arith, c.loop-i.invariant.3 (omega arith))
-
-pub overflow_add-cell : goal.overflow_add-cell
-overflow_add-cell c = omega (arith, c.loop-i.invariant.3 (omega arith))
-
-pub offset_bounds-tables-body : goal.offset_bounds-tables-body
-offset_bounds-tables-body c = omega (arith, c.loop-i.invariant.3 (omega arith))
-
-pub bounds-tables-body : goal.bounds-tables-body
-bounds-tables-body c = omega (arith, c.loop-i.invariant.3 (omega arith))
-
-pub loop-i-preserved : goal.loop-i-preserved
-loop-i-preserved c =
-    let a = c.args in
-    let at = c.loop-i in
-    let cells : length a.tables.cells ≡ 1024 = c.well_formed.0.1.1.1.1.1.1.1.1.0.1.0.1 in
-    let inside : at.i < length (body_of (list_of a.tables) a.body) = omega arith in (
-      search rules,
-      search rules,
-      search rules,
-      at.invariant.3,
-      search rules,
-      search rules,
-      counted_more a.tables a.task a.body a.pc at.n at.i c.added-n.result (get_or a.tables.cells (32 * a.body + at.i) blank_cell).instruction inside (omega arith)
-          (instruction_is a.tables a.body (search rules) cells at.i inside blank_cell) (c.added-n.ensures.0 (search rules)) at.invariant.6,
+pub loop-cell-preserved : goal.loop-cell-preserved
+loop-cell-preserved c =
+    let at = c.loop-cell in (
+      omega arith,
+      counted_more c.args.tables c.args.task _ at.n at.cell-index c.added-n.result _ blank_cell (omega arith) refl (c.added-n.ensures.0 (search rules)) at.invariant.1,
     )
 
 pub returns : goal.returns
 returns c =
-    λ h.
     let a = c.args in
-    let at = c.loop-i in
-    counted_all a.tables a.task a.body a.pc at.n at.i (omega arith) at.invariant.6
+    let at = c.loop-cell in
+    let cells = c.cells_of-cells in
+    λ h.
+    counted_all a.tables a.task _ a.body a.pc cells.result.now cells.ensures.held (ap (λ m. take m cells.result.now) c.min.ensures)
+    at.n at.cell-index (omega arith) at.invariant.1

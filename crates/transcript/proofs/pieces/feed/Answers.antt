@@ -1,11 +1,11 @@
 -- Nothing is used, or the run is lent to the calls of the piece behind the byte that waited.
 -- Assumes nothing.
-use Prim.Native.Nat.{◌*◌, ◌/◌}
-use mathlib.Core.Path.{sym, ◌∙◌}
-use native.Mathlib.Omega.{arith}
-use lib.ListN.{length}
-use lib.Seq.{length-take-le}
-use Rattle.transcript.proofs.PieceLaws.{within_both, joined_room, fed_idle, fed_taken}
+use Rattle.std.proofs.Common.{ℕ, ◌≡◌, ◌*◌, ◌/◌, ◌++◌, List, length, take, drop, sym, ap, subst, ◌∙◌, arith}
+use Rattle.std.specs.Prelude.{slice_get}
+use lib.ListN.{length-take}
+use Rattle.lent.specs.Pieces.{LentOf}
+use Rattle.transcript.specs.Promises.{pending_bytes, half_of}
+use Rattle.transcript.proofs.PieceLaws.{within_both, joined_length, fed_idle, fed_taken, half_first}
 use Rattle.transcript.proofs.pieces.feed.Goals as goal
 
 pub returns-then-exceeds : goal.returns-then-exceeds
@@ -18,34 +18,40 @@ in_one-input-requires c =
     let a = c.args in
     (within_both (length a.piece.now) (length a.out.now) (sym c.exceeds.ensures ∙ c.if-exceeds.false)).0
 
-pub slice_bounds-bytes-end : goal.slice_bounds-bytes-end
-slice_bounds-bytes-end c =
-    let input = c.in_one-input.ensures in
-    omega (arith, input.most, input.long)
-
-pub slice_bounds-lend-end : goal.slice_bounds-lend-end
-slice_bounds-lend-end c =
-    let input = c.in_one-input in
-    sym (length-take-le (2 * (input.result.count / 2)) input.result.bytes (omega (arith, input.ensures.most, input.ensures.long)))
-
-pub left_over-requires : goal.left_over-requires
-left_over-requires c = let most = c.in_one-input.ensures.most in omega (arith, most)
+pub shared_ref_as_front-put_lines : goal.shared_ref_as_front-put_lines
+shared_ref_as_front-put_lines c =
+    let short = (within_both (length c.args.piece.now) (length c.args.out.now) (sym c.exceeds.ensures ∙ c.if-exceeds.false)).0 in
+    omega (arith, ap length c.in_one-input.ensures, joined_length c.args.pending c.args.piece.now)
 
 pub put_lines-requires : goal.put_lines-requires
 put_lines-requires c =
     let a = c.args in
-    let input = c.in_one-input in
-    let fit = sym c.exceeds.ensures ∙ c.if-exceeds.false in
-    let room = joined_room a.pending a.piece.now (length a.out.now) input.result.count fit input.ensures.count in
-    (omega (arith, input.ensures.most), omega (arith, room))
+    let room = within_both (length a.piece.now) (length a.out.now) (sym c.exceeds.ensures ∙ c.if-exceeds.false) in
+    omega (
+      arith,
+      room.0,
+      room.1,
+      ap length c.in_one-input.ensures,
+      joined_length a.pending a.piece.now,
+      length-take {A = ℕ} (length c.split_at.result.0.now / 2) c.lend-given.result.answers,
+    )
 
 pub returns : goal.returns
 returns c =
     let a = c.args in
-    let input = c.in_one-input in
+    let bytes : List ℕ = pending_bytes a.pending ++ a.piece.now in
+    let input = c.in_one-input.result.now in
+    let whole : input ≡ bytes = c.in_one-input.ensures in
     let fit = sym c.exceeds.ensures ∙ c.if-exceeds.false in
-    let room = joined_room a.pending a.piece.now (length a.out.now) input.result.count fit input.ensures.count in
     let given = c.lend-given in
-    let left = c.left_over in
     let put = c.put_lines in
-    fed_taken a.run a.pending a.piece.now a.out.now put.new.out input.result given.result left.result put.result fit input.ensures given.ensures left.ensures room put.ensures.0 put.ensures.1 put.ensures.2
+    let calls : c.split_at.result.0.now ≡ take (length bytes / 2 * 2) bytes =
+    c.split_at.ensures.front ∙ ap (λ l. take (length l / 2 * 2) l) whole in
+    let count : length c.split_at.result.0.now / 2 ≡ length bytes / 2 = omega (arith, ap length whole) in
+    let left : pending_bytes c.copied.result ≡ half_of bytes =
+    ap pending_bytes (c.copied.ensures ∙ c.first.ensures.value ∙ ap (λ l. slice_get l 0) (c.split_at.ensures.back ∙ ap (λ l. drop (length l / 2 * 2) l) whole))
+    ∙ half_first bytes in
+    fed_taken a.run a.pending a.piece.now a.out.now put.new.out _ given.result c.copied.result put.result fit
+    (subst (λ l. LentOf l a.run given.result) calls given.ensures) left (ap (λ k. take k given.result.answers) count)
+    put.ensures.0
+    (omega (arith, put.ensures.1, length-take {A = ℕ} (length c.split_at.result.0.now / 2) given.result.answers)) put.ensures.2

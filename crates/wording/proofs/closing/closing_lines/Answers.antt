@@ -20,7 +20,7 @@ returns c =
     let a = c.args in
     let memory = c.put_memory-at in
     let totals = c.put_totals in
-    let left = c.within in
+    let left = c.min in
     let whole : length a.run.order ≡ 128 = search rules in
     closed a.run a.out.now memory.new.out totals.new.out memory.result totals.result left.result whole c.if-out-lt737.false
     memory.ensures.0 memory.ensures.1 memory.ensures.2 left.ensures totals.ensures.1 totals.ensures.0 totals.ensures.2

@@ -1,66 +1,45 @@
 -- Each location on a line of its own.
 -- Assumes nothing.
-use Prim.Native.Nat.{◌<◌}
-use mathlib.Core.Path.{ap, ◌∙◌}
-use native.Mathlib.Omega.{arith}
-use lib.ListN.{length, take}
+use Rattle.std.proofs.Common.{ℕ, ◌^◌, ◌<◌, ◌≤◌, ◌≡◌, ap, ◌∙◌, List, length, take, get_or, arith, rules, refl, min}
 use lib.Seq.{length-sets}
+use lib.ListN.{length-take}
 use Rattle.tasklist.specs.Encode.{joined}
-use Rattle.runtime.specs.View.{model}
 use Rattle.wording.specs.Wording.{line}
-use borrow.Author.Rules.{rules}
-use Rattle.wording.proofs.ClosingLaws.{lined_none, lined_more, lined_all, memory_long, memory_at, followed_most}
+use Rattle.wording.proofs.ClosingLaws.{lined_none, lined_more, lined_all, memory_same, followed_most}
 use Rattle.wording.proofs.closing.put_memory.Goals as goal
 
-pub loop-i-init : goal.loop-i-init
-loop-i-init c =
-    let a = c.args in
-    (search rules, c.places-n.ensures, omega arith, lined_none (model a.run).memory a.out.now)
+pub loop-number-init : goal.loop-number-init
+loop-number-init c = lined_none _ _
 
 pub put_followed-at-requires : goal.put_followed-at-requires
 put_followed-at-requires c =
-    let l = c.loop-i in
-    let a = c.args in
-    let number = c.plain in
+    let l = c.loop-number in
+    let numbers : List ℕ = take c.min-locations.result c.args.run.memory in
+    let small : get_or numbers l.number-index 0 < 2 ^ 32 = search rules in
+    let long : length numbers ≤ 64 = omega (arith, length-take {A = ℕ} c.min-locations.result c.args.run.memory) in
     omega (
       arith,
-      followed_most number.result 10 number.ensures.1,
-      l.invariant.3.most,
-      ap length l.invariant.3.places,
-      length-sets a.out.now 0 (joined line (take l.i (model a.run).memory)),
-      c.requires,
-      l.invariant.2,
-      c.loop-i-test.true,
-      c.places-n.ensures,
+      followed_most (get_or numbers l.number-index 0) 10 small,
+      l.invariant.most,
+      ap length l.invariant.places,
+      length-sets c.args.out.now 0 (joined line (take l.number-index numbers)),
     )
 
-pub loop-i-preserved : goal.loop-i-preserved
-loop-i-preserved c =
-    let l = c.loop-i in
-    let a = c.args in
-    let number = c.plain in
+pub loop-number-preserved : goal.loop-number-preserved
+loop-number-preserved c =
+    let l = c.loop-number in
     let put = c.put_followed-at in
-    let n = c.places-n.result in
-    let long = memory_long a.run l.invariant.0 n l.invariant.1 in
-    let inside : l.i < length (model a.run).memory = omega (arith, long, c.loop-i-test.true) in (
-      l.invariant.0,
-      l.invariant.1,
-      omega (arith, c.loop-i-test.true),
-      lined_more (model a.run).memory a.out.now l.out put.new.out l.at l.i number.result put.result inside
-          (number.ensures.0 ∙ memory_at a.run l.invariant.0 n l.invariant.1 l.i c.loop-i-test.true) number.ensures.1 l.invariant.3
-          put.ensures.1 put.ensures.0,
-    )
-
-pub shape_of-out : goal.shape_of-out
-shape_of-out c =
-    let l = c.loop-i in
-    let a = c.args in
-    ap length l.invariant.3.places ∙ length-sets a.out.now 0 (joined line (take l.i (model a.run).memory))
+    let numbers : List ℕ = take c.min-locations.result c.args.run.memory in
+    let small : get_or numbers l.number-index 0 < 2 ^ 32 = search rules in
+    lined_more numbers c.args.out.now l.out put.new.out l.at l.number-index _ put.result c.loop-number-test.true refl small l.invariant put.ensures.1 put.ensures.0
 
 pub returns : goal.returns
 returns c =
-    let l = c.loop-i in
-    let a = c.args in
-    let n = c.places-n.result in
-    let long = memory_long a.run l.invariant.0 n l.invariant.1 in
-    lined_all (model a.run).memory a.out.now l.out l.at l.i (omega (arith, long, c.loop-i-test.false)) (omega (arith, l.invariant.1, l.invariant.2)) l.invariant.3
+    let run = c.args.run in
+    let n : ℕ = c.min-locations.result in
+    let whole : length run.memory ≡ 64 = search rules in
+    let locations : n ≡ min run.tables.locations 64 = c.min-locations.ensures ∙ ap (λ k. min k 64) c.from.ensures in
+    let all =
+    lined_all (take n run.memory) c.args.out.now c.loop-number.out c.loop-number.at c.loop-number.number-index
+    c.loop-number-test.false (omega (arith, length-take {A = ℕ} n run.memory)) c.loop-number.invariant in
+    rw (← memory_same run n whole locations) all

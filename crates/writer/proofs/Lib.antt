@@ -1,0 +1,2 @@
+-- Laws of the records that are written.
+pub mod RecordLaws

@@ -1,0 +1,2 @@
+-- What a reader must believe of the writer's records.
+pub mod Records

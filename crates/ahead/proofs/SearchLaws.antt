@@ -1,7 +1,7 @@
 -- Laws of the search: a look at several items from the front, the accesses of a row, and the model's answer by the table of
 -- modes. Assumes nothing.
-use Prim.Native.Nat.{ℕ, zero, suc, ◌+◌, ◌≤◌, ◌<◌, min}
-use Rattle.std.proofs.lemmas.List.{take_min, map-append}
+use Prim.Native.Nat.{ℕ, zero, suc, ◌+◌, ◌≤◌, ◌<◌}
+use Rattle.std.proofs.lemmas.List.{map-append}
 use mathlib.Core.Path.{◌≡◌, refl, sym, ap, subst, ◌∙◌}
 use mathlib.Core.List.{List, [], ◌∷◌, ◌++◌, append-nil}
 use mathlib.Core.Bool.{Bool, true, false, false≢true, ◌&&◌, ◌||◌, and-true, or-false}
@@ -10,6 +10,11 @@ use Rattle.std.proofs.lemmas.Bool.{or_left, or_right, or_parts, or_from, and_rig
 use mathlib.Core.Logic.{◌≢◌, ◌⊎◌, inl, inr}
 use native.Mathlib.Omega.{arith}
 use native.Mathlib.Numerals.{add-one}
+use native.Mathlib.Nat.{zero-add}
+use Rattle.std.specs.List.{zip, range_with_len}
+use Rattle.std.proofs.lemmas.List.{get_or_default}
+use Rattle.std.proofs.lemmas.List.FromFn.{length-range_with_len, get_or-range_with_len}
+use Rattle.std.proofs.lemmas.Slice.Zip.{length-zip, get_or-zip}
 use lib.ListN.{length, take, drop, get_or, set, length-map, get_or-map, drop_of_length-le}
 use lib.Seq.{drop-cons, take-suc, take-suc-set, take_all, append_snoc}
 use lib.Dec.{leb, eqb}
@@ -75,6 +80,9 @@ other_ahead (suc zero) a h = absurd (omega arith)
 other_ahead (suc (suc zero)) a h = absurd (omega arith)
 other_ahead (suc (suc (suc zero))) a h = absurd (omega arith)
 other_ahead (suc (suc (suc (suc m)))) a h = refl
+
+-- for a mode ahead and the mode asked for
+pub ruleset compatibles = (none_ahead, read_ahead, write_ahead, none_or_sum_ahead, other_asked, other_ahead)
 
 -- A search from the front over xs: none of the first i is a writer, and the hold says whether they all pass.
 module _ {A : Type 0} (writes passes : A → Bool) where
@@ -224,6 +232,19 @@ module _ (row : List ℕ) where
   collect_all gs i h e =
       sym (append-nil (accesses_of gs)) ∙ ap (λ l. accesses_of gs ++ needs_from i l) (sym (drop_of_length-le row h)) ∙ e
 
+-- place i of the locations with their modes
+pub asked_there :
+    (row : List ℕ) (i location mode : ℕ) → length row ≡ 64 → i < length (zip (range_with_len 0 64) row)
+    → (location, mode) ≡ get_or (zip (range_with_len 0 64) row) i (location, mode)
+    → (i < 64) × (location ≡ i) × (mode ≡ get_or row i 0)
+asked_there row i location mode whole inside e =
+    let near : i < 64 = omega (arith, length-zip (range_with_len 0 64) row, length-range_with_len 0 64) in
+    let pair = e ∙ get_or-zip (range_with_len 0 64) row i (location, mode) (omega (arith, length-range_with_len 0 64)) (omega arith) in (
+      near,
+      ap (λ p. p.0) pair ∙ get_or-range_with_len 0 64 i location near ∙ zero-add i,
+      ap (λ p. p.1) pair ∙ get_or_default row i mode 0 (omega arith),
+    )
+
 length_accesses : (gs : List Declared.Access) → length (accesses_of gs) ≡ length gs
 unfolding accesses_of
 length_accesses gs = length-map gs (λ g. access g.location g.asked)
@@ -286,6 +307,9 @@ module _ (modes : List ℕ) (task : ℕ) (gs : List Declared.Access) where
             scan_other writes_at passes_at (accesses_of gs) hold i (access 0 0) within e (mode_here ∙ ne_eqb mode 2 q) after is
             (passes_here ∙ sym p)
 
+-- for what one task ahead does
+pub ruleset looks = (looked_none, looked_writer, looked_pass, looked_other, looked_all)
+
 -- The tasks ahead, of which i have been looked at.
 module _ (modes : List ℕ) (gs : List Access) (tasks : List ℕ) where
   pub SearchedTo : Hold → ℕ → Type 0
@@ -340,14 +364,13 @@ module _ (modes : List ℕ) (gs : List Access) (tasks : List ℕ) where
               let s = says Others q in
               scan_other (writes_one modes gs) (passes_all modes gs) tasks others i 0 inside e s.0 after is s.1
 
--- the tasks up to a place of the order, or all
-pub up_to : (at bound : ℕ) (order : List ℕ) → length order ≡ 128 → bound ≡ min at 128 → take bound order ≡ take at order
-up_to at bound order all least = ap (λ n. take n order) (least ∙ ap (min at) (sym all)) ∙ take_min at order
-
 every_same : {A : Type 0} (p q : A → Bool) (l : List A) → ((a : A) → In a l → p a ≡ q a) → every p l ≡ every q l
 unfolding every
 every_same p q [] h = refl
 every_same p q (a ∷ l) h = rw (h a (inl refl), every_same p q l (λ b i. h b (inr i))) refl
+
+-- for the search of the tasks ahead
+pub ruleset searches = (searched_none, searched_writer, searched_pass, searched_other, searched_all)
 
 -- what a hold makes of a call with this effect
 abbrev pub outcome_by : Hold → Effect → Outcome

@@ -1,5 +1,7 @@
 -- What the tasks ahead do to the accesses of a call, by the table of modes.
-use Rattle.std.specs.Prelude.{ℕ, suc, List, [], ◌∷◌, Bool, true, false, cond, map, get_or, eqb}
+use Rattle.std.specs.Prelude.{ℕ, suc, List, [], ◌∷◌, Bool, true, false, Result, Ok, Err, cond, map, get_or, eqb}
+use Rattle.semantics.specs.declared.CallRefusal.{CallRefusal}
+use Rattle.semantics.specs.declared.CallRefusal.TheVariants.{BehindWriter, BehindOthers}
 use Rattle.semantics.specs.Access.{Access, every, any, compatible}
 use Rattle.semantics.specs.Search.{Found, found}
 use Rattle.ahead.specs.declared.Hold.{Hold}
@@ -28,6 +30,12 @@ abbrev pub held_by : Bool → Bool → Hold
 held_by true passed = Writer
 held_by false true = Free
 held_by false false = Others
+
+-- what a call is answered that is held back so: request 102's 19 behind a writer, 20 behind others
+abbrev pub past : Hold → Result Unit CallRefusal
+past Free = Ok tt
+past Writer = Err BehindWriter
+past Others = Err BehindOthers
 
 -- what these tasks do to these accesses
 unfoldable pub hold_ahead : List ℕ → List ℕ → List Access → Hold

@@ -1,6 +1,11 @@
 // The search of the tasks ahead: what they do to the accesses of a call, and at how many it looked.
 #![tactic(auto)]
 
+ghost use Rattle.std.specs.Prelude.{◌≡◌};
+ghost use Rattle.ahead.specs.Ahead.{past};
+
+use semantics::CallRefusal;
+
 mod search;
 mod wanted;
 
@@ -16,6 +21,19 @@ pub enum Hold {
     Writer,
     // None has, and some may not stand ahead.
     Others,
+}
+
+impl Hold {
+    // What a call is answered: nothing, or 19, 20.
+    pub fn answer(self) -> Result<(), CallRefusal>
+        ensures { result ≡ past self }
+    {
+        match self {
+            Hold::Free => Ok(()),
+            Hold::Writer => Err(CallRefusal::BehindWriter),
+            Hold::Others => Err(CallRefusal::BehindOthers),
+        }
+    }
 }
 
 // What a search of the tasks ahead found, and at how many tasks it looked: the place where it stopped, counted from 1.

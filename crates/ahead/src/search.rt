@@ -1,5 +1,5 @@
 // The search of the tasks ahead: what they do to the accesses of a call.
-ghost use Rattle.std.specs.Prelude.{◌≡◌, length, take};
+ghost use Rattle.std.specs.Prelude.{◌≡◌};
 ghost use Rattle.semantics.specs.Access.{compatible};
 ghost use Rattle.ahead.specs.Ahead.{accesses_of, writes_one, passes_all, held_by, searched_ahead};
 
@@ -7,6 +7,7 @@ use crate::{Access, Hold, Searched};
 use arrays::mode_at;
 
 // Whether a task with this mode may stand ahead of an access that asks for `asked`.
+#[tactic(auto, using(crate::proofs::SearchLaws::compatibles))]
 pub fn passable(mode: u8, asked: u8) -> bool
     ensures { result ≡ compatible mode asked }
 {
@@ -20,8 +21,9 @@ pub fn passable(mode: u8, asked: u8) -> bool
 }
 
 // What one task ahead does to these accesses.
+#[tactic(auto, using(crate::proofs::SearchLaws::looks))]
 fn hold_of(modes: &[u8; 8192], task: usize, wanted: &[Access]) -> Hold
-    ensures { length modes.now ≡ 8192 → result ≡ held_by (writes_one modes.now (accesses_of wanted.now) task) (passes_all modes.now (accesses_of wanted.now) task) }
+    ensures { result ≡ held_by (writes_one modes.now (accesses_of wanted.now) task) (passes_all modes.now (accesses_of wanted.now) task) }
 {
     let mut hold = Hold::Free;
     for access in wanted {
@@ -36,12 +38,12 @@ fn hold_of(modes: &[u8; 8192], task: usize, wanted: &[Access]) -> Hold
     hold
 }
 
-// The search of the task at place `at` of the order for what holds these accesses back: task by task from the front, to the
+// The search of a task, with these tasks ahead of it, for what holds these accesses back: task by task from the front, to the
 // first that has mode write at one of the locations, or to the task itself.
-pub fn search_ahead(order: &[u8; 128], at: usize, modes: &[u8; 8192], wanted: &[Access]) -> Searched
-    ensures { length order.now ≡ 128 → length modes.now ≡ 8192 → result ≡ searched_ahead modes.now (take at order.now) (accesses_of wanted.now) }
+#[tactic(auto, using(crate::proofs::SearchLaws::searches))]
+pub fn search_ahead(tasks: &[u8], modes: &[u8; 8192], wanted: &[Access]) -> Searched
+    ensures { result ≡ searched_ahead modes.now tasks.now (accesses_of wanted.now) }
 {
-    let tasks = &order[..at.min(128)];
     let mut hold = Hold::Free;
     for (place, &task) in tasks.iter().enumerate() {
         match hold_of(modes, usize::from(task), wanted) {

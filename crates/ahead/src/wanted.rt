@@ -1,11 +1,11 @@
 // The accesses of a call.
-ghost use Rattle.std.specs.Prelude.{◌<◌, ◌≡◌, List, [], ◌∷◌, length};
+ghost use Rattle.std.specs.Prelude.{◌<◌, ◌≡◌, [], ◌∷◌};
 ghost use Rattle.semantics.specs.Plan.{needs_from};
 ghost use Rattle.arrays.specs.Rows.{row};
 ghost use Rattle.ahead.specs.Ahead.{access, accesses_of};
 
 use crate::Access;
-use arrays::mode_at;
+use arrays::row_of;
 use std::marker::Model;
 
 // What stands behind the accesses of a call.
@@ -45,12 +45,11 @@ impl Wanted {
 
 // The accesses of a task's start: every location where its mode isn't 0, in that mode.
 pub fn wanted_of(modes: &[u8; 8192], task: usize) -> Wanted
-    ensures { length modes.now ≡ 8192 → task < 128 → accesses_of result ≡ needs_from 0 (row task modes.now) }
+    ensures { task < 128 → accesses_of result ≡ needs_from 0 (row task modes.now) }
 {
     let mut accesses = [NONE; 64];
     let mut count = 0;
-    for location in 0..64 {
-        let asked = mode_at(modes, task, usize::from(location));
+    for (location, &asked) in (0..64).zip(&row_of(modes, task)) {
         if asked != 0 {
             accesses[count] = Access { location, asked };
             count += 1;
@@ -60,6 +59,7 @@ pub fn wanted_of(modes: &[u8; 8192], task: usize) -> Wanted
 }
 
 // One access.
+#[tactic(auto, unfolding(crate::specs::Ahead::accesses_of))]
 pub fn wanted_at(location: usize, mode: u8) -> Wanted
     ensures { location < 64 → accesses_of result ≡ access location mode ∷ [] }
 {

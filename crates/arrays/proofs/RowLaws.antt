@@ -30,6 +30,9 @@ row_none k modes h = ap (take 64) (drop_of_length-le modes h)
 pub row_beyond : (k a : ℕ) (modes : List ℕ) → length modes ≡ 8192 → 128 ≤ k → 0 ≡ get_or (row k modes) a 0
 row_beyond k a modes n h = ap (λ (l : List ℕ). get_or l a 0) (sym (row_none k modes (omega arith)))
 
+-- for the mode of a task at a location
+pub ruleset places = (row_place, row_past, row_beyond)
+
 pub row_length : (k : ℕ) (modes : List ℕ) → length modes ≡ 8192 → k < 128 → length (row k modes) ≡ 64
 unfolding row
 row_length k modes n h = length-take-le 64 (drop (64 * k) modes) (omega (arith, length-drop (64 * k) modes))

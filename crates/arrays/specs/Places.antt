@@ -1,5 +1,10 @@
 -- Places in the order.
-use Rattle.std.specs.Prelude.{ℕ, List, Option, insert, remove, position, eqb}
+use Rattle.std.specs.Prelude.{ℕ, List, Option, insert, remove, position, take, eqb}
+use Rattle.arrays.specs.declared.order.Order.{Order}
+
+-- the unended tasks, front to back
+abbrev pub unended : Order → List ℕ
+unended o = take o.left o.places
 
 -- the first place of a task
 unfoldable pub place_of : ℕ → List ℕ → Option ℕ

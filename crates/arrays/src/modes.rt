@@ -1,10 +1,11 @@
 // The table of modes: 128 rows of 64, a row for each task.
-ghost use Rattle.std.specs.Prelude.{◌<◌, ◌≡◌, length, get_or, set};
+ghost use Rattle.std.specs.Prelude.{◌<◌, ◌≡◌, get_or, set};
 ghost use Rattle.arrays.specs.Rows.{row, with};
 
 // The row of `task`; all zero from 128 on.
+#[tactic(auto, unfolding(crate::specs::Rows::row))]
 pub fn row_of(modes: &[u8; 8192], task: usize) -> [u8; 64]
-    ensures { length modes.now ≡ 8192 → task < 128 → result ≡ row task modes.now }
+    ensures { task < 128 → result ≡ row task modes.now }
 {
     let mut out = [0; 64];
     if task >= 128 {
@@ -15,8 +16,9 @@ pub fn row_of(modes: &[u8; 8192], task: usize) -> [u8; 64]
 }
 
 // Puts `row` as the row of `task`; leaves the table as it is from 128 on.
+#[tactic(auto, using(crate::proofs::RowLaws::row_put))]
 pub fn put_row(modes: &mut [u8; 8192], task: usize, row: [u8; 64])
-    ensures { (length modes.old ≡ 8192 → task < 128 → modes.new ≡ with task row modes.old) × (length modes.new ≡ length modes.old) }
+    ensures { task < 128 → modes.new ≡ with task row modes.old }
 {
     if task < 128 {
         modes[64 * task..64 * task + 64].copy_from_slice(&row);
@@ -24,8 +26,9 @@ pub fn put_row(modes: &mut [u8; 8192], task: usize, row: [u8; 64])
 }
 
 // The mode of `task` at `location`; 0 where there is no such task or location.
+#[tactic(auto, using(crate::proofs::RowLaws::places))]
 pub fn mode_at(modes: &[u8; 8192], task: usize, location: usize) -> u8
-    ensures { length modes.now ≡ 8192 → result ≡ get_or (row task modes.now) location 0 }
+    ensures { result ≡ get_or (row task modes.now) location 0 }
 {
     if task < 128 && location < 64 {
         modes[64 * task + location]
@@ -35,8 +38,8 @@ pub fn mode_at(modes: &[u8; 8192], task: usize, location: usize) -> u8
 }
 
 // The mode of a row at `location`; 0 where there is none.
-pub fn mode_in(row: [u8; 64], location: usize) -> u8
-    ensures { result ≡ get_or row location 0 }
+pub fn mode_in(row: &[u8; 64], location: usize) -> u8
+    ensures { result ≡ get_or row.now location 0 }
 {
     row.get(location).copied().unwrap_or(0)
 }

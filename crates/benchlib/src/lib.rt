@@ -1,4 +1,5 @@
 // What the benchmark calls: a run is opened under today's weights, or calls are made on it, and one number of it is given.
+// Kept: a list and its memory stand side by side, and kinds and tasks of calls, since the programs in C pass them so.
 #![tactic(auto)]
 
 ghost use Rattle.std.specs.Prelude.{◌≡◌};
@@ -14,38 +15,26 @@ use sequence::{replay, sequential};
 pub fn bench_open(list: &[u8], memory: &[u32]) -> usize
     ensures { result ≡ left_in (open_asked list.now memory.now fixed_weights) }
 {
-    match open(list, memory, &todays_weights()) {
-        Ok(opened) => opened.left,
-        Err(_) => 0,
-    }
+    open(list, memory, &todays_weights()).map_or(0, |run| run.order.left)
 }
 
 // How many calls the sequential run makes; 0 where open refuses.
 pub fn bench_sequential(list: &[u8], memory: &[u32]) -> u32
     ensures { result ≡ calls_in (sequential_asked list.now memory.now fixed_weights) }
 {
-    match sequential(list, memory, &todays_weights()) {
-        Ok(opened) => opened.calls,
-        Err(_) => 0,
-    }
+    sequential(list, memory, &todays_weights()).map_or(0, |run| run.calls)
 }
 
 // How many of these calls are accepted, made one after the other; 0 where open refuses.
 pub fn bench_replay(list: &[u8], memory: &[u32], kinds: &[u8], tasks: &[u32]) -> u32
     ensures { result ≡ calls_in (replay_asked list.now memory.now fixed_weights (calls_of kinds.now tasks.now)) }
 {
-    match replay(list, memory, &todays_weights(), kinds, tasks) {
-        Ok(opened) => opened.calls,
-        Err(_) => 0,
-    }
+    replay(list, memory, &todays_weights(), kinds, tasks).map_or(0, |run| run.calls)
 }
 
 // The same of the calls in the first 512 bytes of an input, each on the run that is lent to it.
 pub fn bench_lent(list: &[u8], memory: &[u32], input: &[u8]) -> u32
     ensures { result ≡ calls_in (lent_asked list.now memory.now fixed_weights input.now) }
 {
-    let Ok(opened) = open(list, memory, &todays_weights()) else {
-        return 0;
-    };
-    lent::lend(opened, input).run.calls
+    open(list, memory, &todays_weights()).map_or(0, |run| lent::lend(run, input).run.calls)
 }

@@ -17,8 +17,7 @@ fn usage(rt: &impl Print) -> io::Result<()> {
 
 // Makes the calls of an open file on a run, in pieces that the lender takes at once; they have an even number of bytes, so that no
 // call lies in two. A read that fails counts as the file's end. No file has so many pieces that the loop ends before the file does.
-fn all_calls<F: Read>(file: &mut F, run: Run) -> Run {
-    let mut run = run;
+fn all_calls<F: Read>(file: &mut F, mut run: Run) -> Run {
     for _ in 0..u64::MAX {
         let mut piece = [0u8; PIECE];
         let n = fill(file, &mut piece);
@@ -38,29 +37,22 @@ fn after_calls<R: Files>(rt: &R, name: &[u8], run: Run) -> Run {
     }
 }
 
-// The run that is billed: after the calls where there is a file of them, else the hand run's.
-fn billed_run<R: Files>(
-    rt: &R,
-    jobs: &[u8],
-    numbers: &[u8],
-    calls: Option<&[u8]>,
-) -> Result<Run, OpenRefusal> {
+// The run that is billed: after the calls where there is a file of them, else the hand run's. A jobs.bin that can't be read is
+// answered as one that is cut off, as by the coordinator.
+fn billed_run<R: Files>(rt: &R, folder: &Folder, calls: Option<&[u8]>) -> Result<Run, OpenRefusal> {
+    let jobs = folder.jobs.bytes().ok_or(Refusal::Incomplete)?;
+    let numbers = folder.library_bytes();
     match calls {
         Some(name) => Ok(after_calls(rt, name, wording::open_files(jobs, numbers)?)),
         None => host_bill::hand_run_files(jobs, numbers),
     }
 }
 
-// Shares a bill, after the calls of the file that is named, if one is. A jobs.bin that can't be read is answered as one that is cut
-// off, as by the coordinator.
+// Shares a bill, after the calls of the file that is named, if one is.
 fn share<R: Files + Print>(rt: &R, bill: u32, calls: Option<&[u8]>) -> io::Result<()> {
     let folder = Folder::read(rt);
-    let opened = match folder.jobs.bytes() {
-        Some(jobs) => billed_run(rt, jobs, folder.library_bytes(), calls),
-        None => Err(OpenRefusal::List(Refusal::Incomplete)),
-    };
     let mut out = [0u8; ROOM];
-    let n = host_bill::bill_lines(opened, bill, &mut out);
+    let n = host_bill::bill_lines(billed_run(rt, &folder, calls), bill, &mut out);
     rt.write_all(&out[..n])
 }
 

@@ -1,31 +1,15 @@
 -- The weight of a block, added up modulo 2^32: no sound run's wraps. Assumes nothing.
-use Rattle.std.proofs.Common.{◌≡◌, ℕ, zero, suc, ◌+◌, ◌-◌, ◌%◌, ◌^◌, ◌<◌, ◌≤◌, Bool, true, false, leb, List, [], ◌∷◌, length, get_or, take, drop, sym, refl, ap, ◌∙◌, mod-eq_of_lt, arith, length-drop, drop_of_length-le, take_all, drop-cons, drop-drop, take-add, leb-false, leb-true}
+use Rattle.std.proofs.Common.{◌≡◌, ℕ, zero, suc, ◌+◌, ◌-◌, ◌%◌, ◌^◌, ◌<◌, ◌≤◌, Bool, true, false, leb, List, [], ◌∷◌, ◌++◌, length, get_or, take, drop, sym, refl, ap, ◌∙◌, mod-eq_of_lt, arith, length-drop, drop_of_length-le, take_all, drop-cons, leb-false, leb-true, add-one}
 use native.Mathlib.Nat.{mod-add-mod}
+use Rattle.std.specs.List.{sum_by, range_with_len}
+use Rattle.std.proofs.lemmas.List.Sums.{sum_by_push, sum_by-cons}
 use Rattle.tasklist.specs.TaskList.{total, task_count}
 use Rattle.tasklist.specs.Tables.{capped}
 use Rattle.semantics.specs.Run.{Task, Run, Context, never, task_of}
 use Rattle.semantics.specs.Sound.{weighs, Sound}
-use Rattle.semantics.proofs.Fair.{total_append}
 use Rattle.semantics.proofs.Bounds.{weight_most}
 use Rattle.model_bill.specs.Bill.{wards_from, ward_weight}
 use Rattle.model_bill.proofs.Walk.{walk_past}
-
--- one task more of a block
-weighs_more :
-    (ts : List Task) (n i : ℕ)
-    → total weighs (take (i + 1) (drop n ts)) ≡ total weighs (take i (drop n ts)) + total weighs (take 1 (drop (n + i) ts))
-weighs_more ts n i =
-    ap (total weighs) (take-add i 1 (drop n ts)) ∙ total_append weighs (take i (drop n ts)) (take 1 (drop i (drop n ts)))
-    ∙ ap (λ l. total weighs (take i (drop n ts)) + total weighs (take 1 l)) (drop-drop i n ts)
-
--- modulo 2^32
-pub weighs_turn :
-    (ts : List Task) (n i sum weight : ℕ) → sum ≡ total weighs (take i (drop n ts)) % 2 ^ 32
-    → weight ≡ total weighs (take 1 (drop (n + i) ts)) → (sum + weight) % 2 ^ 32 ≡ total weighs (take (i + 1) (drop n ts)) % 2 ^ 32
-weighs_turn ts n i sum weight s w =
-    let a = total weighs (take i (drop n ts)) in
-    ap (λ x. (x + weight) % 2 ^ 32) s ∙ mod-add-mod a (2 ^ 32) weight ∙ ap (λ x. (a + x) % 2 ^ 32) w
-    ∙ ap (λ x. x % 2 ^ 32) (sym (weighs_more ts n i))
 
 -- one task
 pub weighs_one : (ts : List Task) (n : ℕ) → n < length ts → (get_or ts n never).weight ≡ total weighs (take 1 (drop n ts))
@@ -37,6 +21,28 @@ weighs_one ts n h =
 -- no task
 pub weighs_none : (ts : List Task) (n : ℕ) → length ts ≤ n → 0 ≡ total weighs (take 1 (drop n ts))
 weighs_none ts n h = sym (ap (λ l. total weighs (take 1 l)) (drop_of_length-le ts h) ∙ (unfold total in refl))
+
+-- task by task, modulo 2^32
+pub block_more :
+    (w : ℕ → ℕ) (ks : List ℕ) (sum k next : ℕ) → sum ≡ sum_by w ks % 2 ^ 32 → next ≡ (sum + w k) % 2 ^ 32 → next ≡ sum_by w (ks ++ (k ∷ [])) % 2 ^ 32
+block_more w ks sum k next s e =
+    e ∙ ap (λ x. (x + w k) % 2 ^ 32) s ∙ mod-add-mod (sum_by w ks) (2 ^ 32) (w k) ∙ ap (λ x. x % 2 ^ 32) (sym (sum_by_push w ks k))
+
+-- the tasks of a block, number by number
+pub block_whole :
+    (ts : List Task) (size n m : ℕ) → m ≡ length ts - n
+    → sum_by (λ k. total weighs (take 1 (drop k ts))) (take size (range_with_len n m)) ≡ total weighs (take size (drop n ts))
+unfolding total
+block_whole ts zero n m h = refl
+block_whole ts (suc size) n zero h = sym (ap (λ l. total weighs (take (suc size) l)) (drop_of_length-le ts {i = n} (omega arith)))
+block_whole ts (suc size) n (suc m) h =
+    let own = (get_or ts n never).weight in
+    let some : n < length ts = omega arith in
+    sum_by-cons (λ k. total weighs (take 1 (drop k ts))) n (take size (range_with_len (n + 1) m))
+    ∙ ap (λ k. k + sum_by (λ k. total weighs (take 1 (drop k ts))) (take size (range_with_len (n + 1) m))) (sym (weighs_one ts n some))
+    ∙ ap (λ k. own + k) (block_whole ts size (n + 1) m (omega arith))
+    ∙ ap (λ k. own + total weighs (take size (drop k ts))) (add-one n)
+    ∙ sym (ap (λ l. total weighs (take (suc size) l)) (drop-cons ts n never some))
 
 -- a part weighs no more than the whole
 part_most : (ts : List Task) (k n : ℕ) → total weighs (take k (drop n ts)) ≤ total weighs ts

@@ -1,15 +1,16 @@
 -- What is read of a run, and one number of the walk over its records. Assumes nothing.
-use Rattle.std.proofs.Common.{◌≡◌, ℕ, suc, ◌+◌, ◌-◌, ◌%◌, ◌^◌, ◌<◌, ◌≤◌, List, [], ◌∷◌, ◌++◌, map, length, take, drop, set, replicate, sym, refl, ap, ◌∙◌, append_assoc, append-nil, add-one, arith, length-drop, length-set, drop_of_length-le, drop-drop, take-suc-set, drop-set-lt, lt-ltb}
+use Rattle.std.proofs.Common.{◌≡◌, ℕ, suc, ◌+◌, ◌-◌, ◌%◌, ◌^◌, ◌<◌, ◌≤◌, List, [], ◌∷◌, ◌++◌, map, length, take, drop, set, replicate, sym, refl, ap, ◌∙◌, append_assoc, append-nil, add-one, arith, length-drop, length-set, drop_of_length-le, drop-drop, take-suc-set, drop-set-lt, Bool, true, false, cond, ltb}
+use native.Mathlib.Decide.{dec_lt}
+use borrow.Author.Tests.{ltb-true, ltb-false}
 use mathlib.Core.List.{map-append}
 use mathlib.Core.Bool.{false≢true}
 use Rattle.tasklist.specs.TaskList.{total, task_count}
 use Rattle.tasklist.specs.Tables.{capped}
-use Rattle.std.specs.Prelude.{Result, Ok, Err, IsOk}
+use Rattle.std.specs.Prelude.{Result, Ok, Err, MatchResult}
 use Rattle.semantics.specs.declared.CallRefusal.{CallRefusal}
-use Rattle.semantics.specs.declared.Record.{Record}
-use Rattle.semantics.specs.Run.{task_of}
+use Rattle.semantics.specs.Run.{Task, task_of}
 use Rattle.semantics.specs.Answers.{task_from}
-use Rattle.semantics.specs.Operations.{gives, record_asked}
+use Rattle.semantics.specs.Operations.{denies, gives, record_asked}
 use Rattle.semantics.specs.Sound.{weighs}
 use Rattle.plans.specs.View.{model as parts_model}
 use Rattle.plans.proofs.ViewLaws.{tasks_length}
@@ -21,30 +22,45 @@ use Rattle.model_bill.specs.Bill.{wards_from, wards, ward_weight, ward_weights}
 use Rattle.model_bill.proofs.Given.{is_given, given_or}
 use Rattle.model_bill.proofs.Walk.{walk_inside, walk_blank, walk_ward}
 use Rattle.bill_wards.specs.declared.Walk.{Walk}
-use Rattle.bill_wards.specs.Promises.{RecordOf, Room, with_later, Weighed, Turned, WardsOf}
-use Rattle.bill_wards.proofs.BlockLaws.{wards_capped, ward_weight_is}
+use Rattle.bill_wards.specs.Promises.{Room, with_later, Weighed, Turned, WardsOf}
+use Rattle.bill_wards.proofs.BlockLaws.{weighs_one, weighs_none, wards_capped, ward_weight_is}
 
--- a task below 128 is told of
-module _ (run : Run) (n : ℕ) (below : n < 128) where
-  given : record_asked (model run) n ≡ gives (task_of (model run) n)
+-- what is told of task n: its record where n is below 128, else nothing
+module _ (run : Run) (n m : ℕ) (same : m ≡ n) where
+  asked_by : (b : Bool) → ltb n 128 ≡ b → record_asked (model run) m ≡ cond b (gives (task_of (model run) n)) (denies 9)
   unfolding record_asked
-  given = rw (lt-ltb n 128 below) refl
+  asked_by b q = ap (record_asked (model run)) same ∙ ap (λ b. cond b (gives (task_of (model run) n)) (denies 9)) q
 
-  pub record_told : (r : Result Recorded CallRefusal) → recorded r ≡ record_asked (model run) n → IsOk r
+  pub told_of :
+      (told : Recorded) → recorded (Ok told) ≡ record_asked (model run) m → (n < 128) × (task_from told.task told.modes ≡ task_of (model run) n)
   unfolding recorded
-  record_told (Ok told) e = refl
-  record_told (Err k) e = absurd (false≢true (ap is_given (e ∙ given)))
+  told_of told e = by_test (ltb n 128) refl
+    where
+      by_test : (b : Bool) → ltb n 128 ≡ b → (n < 128) × (task_from told.task told.modes ≡ task_of (model run) n)
+      by_test true q = (ltb-true n 128 q, ap (given_or (task_from told.task told.modes)) (e ∙ asked_by true q))
+      by_test false q = absurd (false≢true (sym (ap is_given (e ∙ asked_by false q))))
 
-  pub record_read : (told : Recorded) (r : Result Recorded CallRefusal) → r ≡ Ok told → recorded r ≡ record_asked (model run) n → RecordOf run n told.task
+  pub not_told : (k : CallRefusal) → recorded (Err k) ≡ record_asked (model run) m → 127 < n
   unfolding recorded
-  record_read told r is e =
-      let asked : gives (task_from told.task told.modes) ≡ gives (task_of (model run) n) = sym (ap recorded is) ∙ e ∙ given in
-      let same = ap (given_or (task_from told.task told.modes)) asked in
-      record { state = ap (λ t. t.state) same; body = ap (λ t. t.body) same; weight = ap (λ t. t.weight) same }
+  not_told k e = by_test (ltb n 128) refl
+    where
+      by_test : (b : Bool) → ltb n 128 ≡ b → 127 < n
+      by_test true q = absurd (false≢true (ap is_given (e ∙ asked_by true q)))
+      by_test false q = omega (arith, ltb-false n 128 q)
 
 pub tasks_whole : (run : Run) → length run.records ≡ 128 → length (model run).tasks ≡ 128
 unfolding parts_model
 tasks_whole run whole = tasks_length 0 run.records run.modes ∙ whole
+
+-- the weight told of task n, or 0
+pub weight_told :
+    (run : Run) (n : ℕ) → length run.records ≡ 128 → (r : Result Recorded CallRefusal) → recorded r ≡ record_asked (model run) n → (x : ℕ)
+    → MatchResult r (λ told. x ≡ told.task.weight) (λ _. x ≡ 0) → x ≡ total weighs (take 1 (drop n (model run).tasks))
+weight_told run n whole (Ok told) e x q =
+    let t = told_of run n n refl told e in
+    q ∙ ap (λ t. t.weight) t.1 ∙ weighs_one (model run).tasks n (omega (arith, tasks_whole run whole, t.0))
+weight_told run n whole (Err k) e x q =
+    q ∙ weighs_none (model run).tasks n (omega (arith, tasks_whole run whole, not_told run n n refl k e))
 
 -- a place less of zeros behind
 one_fewer :
@@ -57,7 +73,7 @@ one_fewer l x k h behind =
     ∙ ap (drop 1) (behind ∙ ap (λ i. replicate i 0) next)
 
 -- one number of the walk
-module _ (run : Run) (w : Walk) (n : ℕ) (below : n < 128) (room : Room w n) where
+module _ (run : Run) (w : Walk) (n : ℕ) (room : Room w n) where
   stays : Room w (suc n)
   stays =
       record {
@@ -67,9 +83,6 @@ module _ (run : Run) (w : Walk) (n : ℕ) (below : n < 128) (room : Room w n) wh
         numbers_behind = room.numbers_behind;
         weights_behind = room.weights_behind;
       }
-
-  inside : SoundRun run → n < length (model run).tasks
-  inside s = omega (arith, tasks_whole run s.records)
 
   abbrev numbers_found : List ℕ
   numbers_found = take w.found.count w.found.numbers
@@ -84,18 +97,34 @@ module _ (run : Run) (w : Walk) (n : ℕ) (below : n < 128) (room : Room w n) wh
       → Turned run w n w
   unchanged h = record { room = stays; numbers = λ s. ap (λ l. numbers_found ++ l) (h s); weights = λ s q. q }
 
-  pub turned_inside : n < w.until → Turned run w n w
-  turned_inside h = unchanged (λ s. walk_inside (context_of run) (model run).tasks w.until n (inside s) h)
+  -- behind the last number no task is left
+  pub turned_beyond : 127 < n → Turned run w n w
+  unfolding wards_from
+  turned_beyond h =
+      unchanged
+      (λ s.
+      let none : (k : ℕ) → 127 < k → drop k (model run).tasks ≡ [] = λ k l. drop_of_length-le (model run).tasks {i = k} (omega (arith, tasks_whole run s.records)) in
+      ap (wards_from (context_of run) (w.until - suc n) (suc n)) (none (suc n) (omega arith)) ∙ sym (ap (wards_from (context_of run) (w.until - n) n) (none n h)))
 
-  module _ (behind : w.until ≤ n) (own : Record) (read : RecordOf run n own) where
-    pub turned_blank : own.state ≡ 0 → Turned run w n w
+  inside : n < 128 → SoundRun run → n < length (model run).tasks
+  inside below s = omega (arith, tasks_whole run s.records)
+
+  pub turned_inside : n < w.until → Turned run w n w
+  turned_inside h = by_number (dec_lt n 128)
+    where
+      by_number : Dec (n < 128) → Turned run w n w
+      by_number (yes below) = unchanged (λ s. walk_inside (context_of run) (model run).tasks w.until n (inside below s) h)
+      by_number (no above) = turned_beyond (omega arith)
+
+  module _ (behind : w.until ≤ n) (below : n < 128) (t : Task) (read : t ≡ task_of (model run) n) where
+    pub turned_blank : t.state ≡ 0 → Turned run w n w
     turned_blank z =
         unchanged
-        (λ s. walk_blank (context_of run) (model run).tasks w.until n (inside s) behind (sym read.state ∙ z))
+        (λ s. walk_blank (context_of run) (model run).tasks w.until n (inside below s) behind (ap (λ t. t.state) (sym read) ∙ z))
 
     module _
-        (made : own.state ≡ 0 → ⊥) (size weight : ℕ)
-        (size_is : SoundRun run → size ≡ capped (task_count (context_of run).list own.body))
+        (made : t.state ≡ 0 → ⊥) (size weight : ℕ)
+        (size_is : SoundRun run → size ≡ capped (task_count (context_of run).list t.body))
         (weight_is : weight ≡ total weighs (take size (drop n (model run).tasks)) % 2 ^ 32)
       where
         abbrev next : Walk
@@ -116,7 +145,7 @@ module _ (run : Run) (w : Walk) (n : ℕ) (below : n < 128) (room : Room w n) wh
             ∙ take-suc-set l w.found.count x (omega (arith, room.few, long))
 
         block : SoundRun run → size ≡ capped (task_count (context_of run).list (task_of (model run) n).body)
-        block s = size_is s ∙ ap (λ k. capped (task_count (context_of run).list k)) read.body
+        block s = size_is s ∙ ap (λ k. capped (task_count (context_of run).list k)) (ap (λ t. t.body) read)
 
         on : SoundRun run → n ∷ wards_from (context_of run) (n + size - suc n) (suc n) (drop (suc n) (model run).tasks) ≡ wards_from (context_of run) (w.until - n) n (drop n (model run).tasks)
         on s =
@@ -127,7 +156,7 @@ module _ (run : Run) (w : Walk) (n : ℕ) (below : n < 128) (room : Room w n) wh
             let few : length (drop (suc n) ts) ≤ 128 = omega (arith, length-drop (suc n) ts, tasks_whole run s.records) in
             ap (λ x. n ∷ wards_from c x (suc n) (drop (suc n) ts)) k
             ∙ ap (λ l. n ∷ l) (wards_capped count c (suc n) (drop (suc n) ts) few)
-            ∙ walk_ward c ts w.until n (inside s) behind (λ z. made (read.state ∙ z))
+            ∙ walk_ward c ts w.until n (inside below s) behind (λ z. made (ap (λ t. t.state) read ∙ z))
 
         pub turned_ward : Turned run w n next
         turned_ward =

@@ -1,7 +1,5 @@
 -- What the functions promise of the code's run. `BilledAs` and `WardsOf` are what a host reads.
 use Rattle.std.specs.Prelude.{◌≡◌, ℕ, suc, ◌-◌, ◌<◌, ◌≤◌, List, ◌++◌, map, length, take, drop, replicate, Result}
-use Rattle.semantics.specs.declared.Record.{Record}
-use Rattle.semantics.specs.Run.{task_of}
 use Rattle.semantics.specs.Operations.{Asked}
 use Rattle.runtime.specs.declared.Run.{Run}
 use Rattle.runtime.specs.View.{model, context_of, SoundRun}
@@ -36,12 +34,6 @@ pub record WardsOf (run : Run) (r : Wards) : Type 0 where
   -- of every run that came from open, the hand run or calls
   pub numbers : SoundRun run → take r.count r.numbers ≡ wards (context_of run) (model run)
   pub weights : SoundRun run → take r.count r.weights ≡ ward_weights (context_of run) (model run)
-
--- what is read of a record
-pub record RecordOf (run : Run) (n : ℕ) (r : Record) : Type 0 where
-  pub state : r.state ≡ (task_of (model run) n).state
-  pub body : r.body ≡ (task_of (model run) n).body
-  pub weight : r.weight ≡ (task_of (model run) n).weight
 
 -- a walk that has come to number n: the arrays are whole, zeros behind, with room for each number
 pub record Room (w : Walk) (n : ℕ) : Type 0 where

@@ -2,20 +2,19 @@
 // promises: it reads a run by what may be asked of one (crate `inspect`). The numbers alone stand in the crate `bill_shares`.
 #![tactic(auto)]
 
-ghost use Rattle.std.specs.Prelude.{◌≡◌, ◌%◌, ◌^◌, ◌<◌, ◌≤◌, length, take, drop};
+ghost use Rattle.std.specs.Prelude.{◌≡◌, ◌%◌, ◌^◌, length, take, drop};
 ghost use Rattle.std.proofs.lemmas.List.Edits.{sets};
 ghost use Rattle.tasklist.specs.TaskList.{total};
 ghost use Rattle.semantics.specs.Sound.{weighs};
 ghost use Rattle.runtime.specs.View.{model};
 ghost use Rattle.bill_wards.specs.Answers.{bill_refusal_number};
-ghost use Rattle.bill_wards.specs.Promises.{RecordOf, Room, Turned, WardsOf, BilledAs};
+ghost use Rattle.bill_wards.specs.Promises.{Room, Turned, WardsOf, BilledAs};
 
 use bill_shares::PLACES;
 use runtime::Run;
-use semantics::Record;
 
-// The records of a run, one for each number that a task can have.
-const RECORDS: usize = 128;
+// How many records a run has, one for each number that a task can have.
+const RECORDS: u8 = 128;
 
 // The state of a record whose task was never made.
 const NEVER_MADE: u8 = 0;
@@ -60,58 +59,44 @@ pub struct Walk {
     pub until: usize,
 }
 
-// A task's record.
-fn record_of(run: Run, n: usize) -> Record
-    requires { n < 128 }
-    ensures { RecordOf run n result }
-{
-    inspect::task_record(run, n as u32).unwrap().task
-}
-
 // The weight of task `n`, 0 above 127.
-fn task_weight(run: Run, n: usize) -> u32
+fn task_weight(run: Run, n: u32) -> u32
     ensures { result ≡ total weighs (take 1 (drop n (model run).tasks)) }
 {
-    if RECORDS <= n {
-        return 0;
-    }
-    let own = record_of(run, n);
-    own.weight
+    inspect::task_record(run, n).map_or(0, |told| told.task.weight)
 }
 
-// The weight of `size` tasks from number `n` on.
-fn block_weight(run: Run, n: usize, size: usize) -> u32
-    requires { (n < 128) × (size < 256) }
+// The weight of `size` tasks from number `n` on, as many as there are.
+fn block_weight(run: Run, n: u8, size: usize) -> u32
     ensures { result ≡ total weighs (take size (drop n (model run).tasks)) % 2 ^ 32 }
 {
-    let mut sum: u32 = 0;
-    for task in n..n + size {
-        sum = sum.wrapping_add(task_weight(run, task));
-    }
-    sum
+    let block = (u32::from(n)..u32::from(RECORDS)).take(size);
+    block.fold(0, |sum, task| sum.wrapping_add(task_weight(run, task)))
 }
 
 // One number on: the first task made behind the last ward's block is a ward.
-fn turned(run: Run, walk: Walk, n: usize) -> Walk
-    requires { (n < 128) × Room walk n }
+fn turned(run: Run, walk: Walk, n: u8) -> Walk
+    requires { Room walk n }
     ensures { Turned run walk n result }
 {
-    if n < walk.until {
+    if usize::from(n) < walk.until {
         return walk;
     }
-    let own = record_of(run, n);
+    let Ok(told) = inspect::task_record(run, u32::from(n)) else {
+        return walk;
+    };
+    let own = told.task;
     if own.state == NEVER_MADE {
         return walk;
     }
     let size = inspect::block_size(run, own.body);
-    let weight = block_weight(run, n, size);
     let mut found = walk.found;
-    found.numbers[found.count] = n as u8;
-    found.weights[found.count] = weight;
+    found.numbers[found.count] = n;
+    found.weights[found.count] = block_weight(run, n, size);
     found.count += 1;
     Walk {
         found,
-        until: n + size,
+        until: usize::from(n) + size,
     }
 }
 

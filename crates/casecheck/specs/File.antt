@@ -1,39 +1,40 @@
--- The file of cases (docs/cases.md): where its parts end. Assumes nothing.
-use Rattle.std.specs.Prelude.{ℕ, ◌+◌, ◌*◌, ◌≤◌, Bool, true, false, List, leb, length, get_or, Option, Some, None}
-use Rattle.casecheck.specs.declared.file.CaseEnds.{CaseEnds}
+-- The file of cases (docs/cases.md): its parts, one behind the other from the front. Assumes nothing.
+use Rattle.std.specs.Prelude.{ℕ, ◌+◌, ◌*◌, List, [], ◌∷◌, leb, cond, length, take, drop, Option, Some, None}
+use Rattle.std.specs.Borrow.{Bor}
 
--- "Numbers are least byte first.": the number of two bytes at a position
-unfoldable pub count_at : List ℕ → ℕ → ℕ
-count_at bytes at = get_or bytes at 0 + 256 * get_or bytes (at + 1) 0
+-- so many bytes at the front and those behind them, where there are as many
+abbrev pub split : ℕ → List ℕ → Option (List ℕ × List ℕ)
+split n bytes = cond (leb n (length bytes)) (Some (take n bytes, drop n bytes)) None
 
-abbrev pub pick_end : Bool → ℕ → Option ℕ
-pick_end true e = Some e
-pick_end false e = None
+-- "Numbers are least byte first.", "2, then as many": a count of two bytes and as many places of `width` bytes, and the bytes behind
+unfoldable pub part : ℕ → List ℕ → Option (List ℕ × List ℕ)
+part width [] = None
+part width (low ∷ []) = None
+part width (low ∷ high ∷ rest) = split ((low + 256 * high) * width) rest
 
--- "2, then as many": a count of two bytes and as many places of `width` bytes, where the file has them
-unfoldable pub part_end : List ℕ → ℕ → ℕ → Option ℕ
-part_end bytes at width =
-    pick_end (leb (at + 2 + count_at bytes at * width) (length bytes)) (at + 2 + count_at bytes at * width)
+-- the bytes of a case's parts: the list, the numbers of the library, the calls
+pub record Parts : Type 0 where
+  pub list : List ℕ
+  pub numbers : List ℕ
+  pub calls : List ℕ
 
-abbrev pub calls_behind : ℕ → ℕ → Option ℕ → Option CaseEnds
-calls_behind l m None = None
-calls_behind l m (Some e) = Some (record { list = l; memory = m; calls = e })
+abbrev pub calls_behind : List ℕ → List ℕ → Option (List ℕ × List ℕ) → Option (Parts × List ℕ)
+calls_behind l n None = None
+calls_behind l n (Some p) = Some (record { list = l; numbers = n; calls = p.0 }, p.1)
 
-abbrev pub memory_behind : List ℕ → ℕ → Option ℕ → Option CaseEnds
-memory_behind bytes l None = None
-memory_behind bytes l (Some m) = calls_behind l m (part_end bytes m 5)
+abbrev pub numbers_behind : List ℕ → Option (List ℕ × List ℕ) → Option (Parts × List ℕ)
+numbers_behind l None = None
+numbers_behind l (Some p) = calls_behind l p.0 (part 5 p.1)
 
-abbrev pub list_behind : List ℕ → Option ℕ → Option CaseEnds
-list_behind bytes None = None
-list_behind bytes (Some l) = memory_behind bytes l (part_end bytes l 4)
+abbrev pub list_behind : Option (List ℕ × List ℕ) → Option (Parts × List ℕ)
+list_behind None = None
+list_behind (Some p) = numbers_behind p.0 (part 4 p.1)
 
--- The three parts of a case: the list, the numbers of the library, the calls.
-unfoldable pub case_ends : List ℕ → ℕ → Option CaseEnds
-case_ends bytes at = list_behind bytes (part_end bytes at 1)
+-- the three parts of the case at the front, and the bytes behind them
+unfoldable pub case_front : List ℕ → Option (Parts × List ℕ)
+case_front bytes = list_behind (part 1 bytes)
 
--- the parts lie one behind the other, each behind its count, within the file
-pub record Within (bytes : List ℕ) (at : ℕ) (ends : CaseEnds) : Type 0 where
-  pub list : at + 2 ≤ ends.list
-  pub memory : ends.list + 2 ≤ ends.memory
-  pub calls : ends.memory + 2 ≤ ends.calls
-  pub whole : ends.calls ≤ length bytes
+-- what the code splits
+abbrev pub split_as : Option (Bor (List ℕ) × Bor (List ℕ)) → Option (List ℕ × List ℕ)
+split_as None = None
+split_as (Some p) = Some (p.0.now, p.1.now)

@@ -1,4 +1,6 @@
 // What is asked of a run, in lines: entries, totals, records.
+// Kept: the writer and the run are two parameters, here and beside. A struct of both would be no plainer: the moves print other
+// runs to the same writer, and each would make its own.
 ghost use Rattle.std.specs.Prelude.{◌≤◌};
 
 use crate::text::put_numbers;
@@ -18,22 +20,22 @@ pub fn put_refused<W: Write>(
 }
 
 // How many locations the list has (document 01: entries, C).
-pub fn locations(run: &Run) -> usize
+pub fn locations(run: &Run) -> u8
     ensures { result ≤ 64 }
 {
-    usize::from(run.tables.locations).min(64)
+    run.tables.locations.min(64)
 }
 
 // `LABEL N N ..`, the memory (document 01: the entries).
 pub fn put_memory<W: Write>(out: &mut W, label: &str, run: &Run) -> io::Result<()> {
     write!(out, "{label}")?;
-    put_numbers(out, &run.memory[..locations(run)])?;
+    put_numbers(out, &run.memory[..usize::from(locations(run))])?;
     writeln!(out)
 }
 
 // ` CALLS WEIGHT LEFT` to the end of its line
 pub fn put_counts<W: Write>(out: &mut W, run: &Run) -> io::Result<()> {
-    writeln!(out, " {} {} {}", run.calls, run.weight, run.left)
+    writeln!(out, " {} {} {}", run.calls, run.weight, run.order.left)
 }
 
 // `LABEL CALLS WEIGHT LEFT`

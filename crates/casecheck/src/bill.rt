@@ -1,11 +1,9 @@
 // The wards of a run and the bills shared among them (request 114), in lines. Every place of the lent slice is filled before, so
 // that a place that ought to keep what stood in it shows. In front of each line stands a prefix: none, or `hand ` for the
 // sequential run's.
-ghost use Rattle.std.specs.Prelude.{◌≤◌};
-
+use crate::lent::places_taken;
 use crate::text::{put_numbers, put_spoiled};
 use bill_shares::PLACES;
-use bill_wards::BillRefusal;
 use runtime::Run;
 use std::io::{self, Write};
 
@@ -18,13 +16,11 @@ const BILLS: [u32; 5] = [0, 1, 7, 100, u32::MAX];
 // The bill that is also shared into too short a slice.
 const SHORT_BILL: u32 = 100;
 
-// ` N P P ..` or ` refused K`, to the end of its line, and the line `spoiled` where a place that the answer doesn't name was
-// written.
-fn put_billed<W: Write>(
-    out: &mut W,
-    got: Result<usize, BillRefusal>,
-    places: &[u32; PLACES],
-) -> io::Result<()> {
+// The shares of a bill, into so many places: ` N P P ..` or ` refused K`, to the end of its line, and the line `spoiled` where
+// a place that the answer doesn't name was written.
+fn put_bill<W: Write>(out: &mut W, run: &Run, bill: u32, room: usize) -> io::Result<()> {
+    let mut places = [CANARY; PLACES];
+    let got = bill_wards::shares(*run, bill, &mut places[..room.min(PLACES)]);
     match got {
         Ok(n) => {
             let (named, rest) = places.split_at(n.min(PLACES));
@@ -35,38 +31,21 @@ fn put_billed<W: Write>(
         }
         Err(refusal) => {
             writeln!(out, " refused {}", u8::from(refusal))?;
-            put_spoiled(out, places, CANARY)
+            put_spoiled(out, &places, CANARY)
         }
     }
 }
 
-// `PREFIXshares B N P P ..` or `PREFIXshares B refused K`, into 128 places.
-fn put_bill<W: Write>(out: &mut W, prefix: &str, run: &Run, bill: u32) -> io::Result<()> {
-    let mut places = [CANARY; PLACES];
-    let got = bill_wards::shares(*run, bill, &mut places);
-    write!(out, "{prefix}shares {bill}")?;
-    put_billed(out, got, &places)
-}
-
-// How many places the shares of a bill take; none where it isn't shared.
-fn shares_size(run: &Run) -> usize
-    ensures { result ≤ 128 }
-{
-    let mut places = [CANARY; PLACES];
-    let got = bill_wards::shares(*run, SHORT_BILL, &mut places);
-    got.unwrap_or(0).min(PLACES)
-}
-
 // `PREFIXshort shares refused 17`, into a slice that is one place short; nothing where the bill isn't shared.
 fn put_short_bill<W: Write>(out: &mut W, prefix: &str, run: &Run) -> io::Result<()> {
-    let n = shares_size(run);
-    if n == 0 {
+    let size = places_taken([CANARY; PLACES], |places| {
+        bill_wards::shares(*run, SHORT_BILL, places)
+    });
+    let Some(room) = size.checked_sub(1) else {
         return Ok(());
-    }
-    let mut places = [CANARY; PLACES];
-    let got = bill_wards::shares(*run, SHORT_BILL, &mut places[..n - 1]);
+    };
     write!(out, "{prefix}short shares")?;
-    put_billed(out, got, &places)
+    put_bill(out, run, SHORT_BILL, room)
 }
 
 // `PREFIXwards N J W J W ..`
@@ -83,7 +62,8 @@ fn put_wards<W: Write>(out: &mut W, prefix: &str, run: &Run) -> io::Result<()> {
 pub fn put_shares<W: Write>(out: &mut W, prefix: &str, run: &Run) -> io::Result<()> {
     put_wards(out, prefix, run)?;
     for bill in BILLS {
-        put_bill(out, prefix, run, bill)?;
+        write!(out, "{prefix}shares {bill}")?;
+        put_bill(out, run, bill, PLACES)?;
     }
     put_short_bill(out, prefix, run)
 }

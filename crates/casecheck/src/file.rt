@@ -1,61 +1,82 @@
-// The file of cases: where the parts of a case end, and the numbers in them, least byte first.
-ghost use Rattle.std.specs.Prelude.{◌+◌, ◌≤◌, ◌≡◌, length, IfSome};
-ghost use Rattle.casecheck.specs.File.{part_end, case_ends, Within};
+// The file of cases: the cases from its front, the parts of each, and the numbers in them, least byte first.
+ghost use Rattle.std.specs.Prelude.{◌≡◌, ◌<◌, length, IfSome};
+ghost use Rattle.casecheck.specs.File.{part, split_as, case_front};
+ghost use Rattle.casecheck.specs.Cases.{case_split, NextCase};
+ghost use Rattle.std.specs.Iterator.{at_most};
 
-// Where the parts of a case end: the list, the memory (document 01: library), the calls. The last one's end is the case's.
+// A case: the list, the numbers of the memory (document 01: library), the calls, each as it stands behind its count.
 #[derive(Clone, Copy)]
-pub struct CaseEnds {
-    pub list: usize,
-    pub memory: usize,
-    pub calls: usize,
+pub struct Case<'a> {
+    pub list: &'a [u8],
+    pub numbers: &'a [u8],
+    pub calls: &'a [u8],
 }
 
-// Where a part ends that begins at `at`: a count of two bytes, and as many places of `width` bytes. None where the file ends
-// before.
-#[tactic(auto, unfolding(crate::specs::File::part_end, crate::specs::File::count_at))]
-fn part_end(bytes: &[u8], at: usize, width: usize) -> Option<usize>
-    requires { width ≤ 5 }
-    ensures end { result ≡ part_end bytes.now at width }
-    ensures within { IfSome result (λ e. (at + 2 ≤ e) × (e ≤ length bytes.now)) }
+// The part at the front: a count of two bytes, and as many places of `width` bytes; and the bytes behind it. None where they
+// end before.
+#[tactic(auto, using(crate::proofs::FileLaws::part_short, crate::proofs::FileLaws::part_long, crate::proofs::FileLaws::split_at, crate::proofs::FileLaws::split_none))]
+fn split_part(bytes: &[u8], width: u8) -> Option<(&[u8], &[u8])>
+    ensures split { split_as result ≡ part width bytes.now }
+    ensures shorter { IfSome result (λ p. length p.1.now < length bytes.now) }
 {
-    let count = bytes.get(at..)?.first_chunk::<2>()?;
-    let end = at + 2 + usize::from(u16::from_le_bytes(*count)) * width;
-    if end <= bytes.len() { Some(end) } else { None }
+    let (count, rest) = bytes.split_first_chunk::<2>()?;
+    rest.split_at_checked(usize::from(u16::from_le_bytes(*count)) * usize::from(width))
 }
 
-// Where the parts of a case end that begins at `at`.
-#[tactic(auto, unfolding(crate::specs::File::case_ends))]
-pub fn case_ends(bytes: &[u8], at: usize) -> Option<CaseEnds>
-    ensures ends { result ≡ case_ends bytes.now at }
-    ensures within { IfSome result (Within bytes.now at) }
+// The case at the front, and the bytes behind it. None where they end within it.
+#[tactic(auto, unfolding(crate::specs::File::case_front))]
+fn split_case(bytes: &[u8]) -> Option<(Case<'_>, &[u8])>
+    ensures split { case_split result ≡ case_front bytes.now }
+    ensures shorter { IfSome result (λ p. length p.1.now < length bytes.now) }
 {
-    let list = part_end(bytes, at, 1)?;
-    let memory = part_end(bytes, list, 4)?;
-    let calls = part_end(bytes, memory, 5)?;
-    Some(CaseEnds {
-        list,
-        memory,
-        calls,
-    })
+    let (list, rest) = split_part(bytes, 1)?;
+    let (numbers, rest) = split_part(rest, 4)?;
+    let (calls, rest) = split_part(rest, 5)?;
+    Some((
+        Case {
+            list,
+            numbers,
+            calls,
+        },
+        rest,
+    ))
 }
 
-// The numbers at the front of an array, as many as it has room for.
-pub fn words(bytes: &[u8]) -> [u32; 16384]
-    ensures { 16384 ≡ length result }
-{
-    let mut out = [0u32; 16384];
+// The cases from the front, each None where the bytes end within it; it is the last then.
+#[derive(Drop)]
+pub struct Cases<'a>(pub &'a [u8]);
+
+impl<'a> Iterator for Cases<'a> {
+    type Item = Option<Case<'a>>;
+
+    ghost next_gives = { λ s r t. NextCase s.0.now r t.0.now };
+
+    ghost remaining = { λ s. at_most (length s.0.now) };
+
+    fn next(&mut self) -> Option<Option<Case<'a>>> {
+        if self.0.is_empty() {
+            return None;
+        }
+        match split_case(self.0) {
+            Some((case, rest)) => {
+                self.0 = rest;
+                Some(Some(case))
+            }
+            None => {
+                self.0 = &[];
+                Some(None)
+            }
+        }
+    }
+}
+
+// The numbers, at the front of an array that is lent for them: as many as it has room for.
+pub fn words<'a>(bytes: &[u8], room: &'a mut [u32; 16384]) -> &'a [u32] {
     let (fours, _) = bytes.as_chunks::<4>();
-    for (word, four) in out.iter_mut().zip(fours) {
+    for (word, four) in room.iter_mut().zip(fours) {
         *word = u32::from_le_bytes(*four);
     }
-    out
-}
-
-// How many numbers these are.
-pub fn word_count(bytes: &[u8]) -> usize
-    ensures { result ≤ 16384 }
-{
-    (bytes.len() / 4).min(16384)
+    &room[..fours.len().min(16384)]
 }
 
 // Whether every call, of five bytes, is a start, a step or an end.

@@ -5,7 +5,6 @@ ghost use Rattle.std.specs.Prelude.{◌≤◌};
 use crate::asks::{locations, put_refused};
 use crate::text::{put_numbers, put_spoiled};
 use runtime::Run;
-use semantics::CallRefusal;
 use std::io::{self, Write};
 use tasklist::Short;
 
@@ -17,14 +16,29 @@ const BYTE: u8 = 0xAA;
 // How many bytes the longest list has.
 const LIST_BYTES: usize = 4805;
 
-// `LABEL E P P ..` or `LABEL E refused K`
-fn put_queued<W: Write>(
+// How many of N lent places a call takes; none where it is refused.
+pub fn places_taken<T, E, F, const N: usize>(mut places: [T; N], call: F) -> usize
+where
+    T: Copy,
+    E: Drop,
+    F: FnOnce(&mut [T]) -> Result<usize, E>,
+    requires { F.IsAlwaysCallable call }
+    ensures { result ≤ N }
+{
+    call(&mut places).unwrap_or(0).min(N)
+}
+
+// The queue of a location, into so many places: `LABEL E P P ..` or `LABEL E refused K`.
+fn put_queue<W: Write>(
     out: &mut W,
     label: &str,
-    location: u32,
-    got: Result<usize, CallRefusal>,
-    places: &[u16; 128],
+    run: &Run,
+    location: u8,
+    room: usize,
 ) -> io::Result<()> {
+    let location = u32::from(location);
+    let mut places = [PLACE; 128];
+    let got = inspect::location_queue(*run, location, &mut places[..room.min(128)]);
     match got {
         Ok(n) => {
             let (queue, rest) = places.split_at(n.min(128));
@@ -35,61 +49,40 @@ fn put_queued<W: Write>(
         }
         Err(refusal) => {
             put_refused(out, label, location, refusal)?;
-            put_spoiled(out, places, PLACE)
+            put_spoiled(out, &places, PLACE)
         }
     }
 }
 
-// The queue of a location, into 128 places.
-fn put_queue<W: Write>(out: &mut W, run: &Run, location: u32) -> io::Result<()> {
-    let mut places = [PLACE; 128];
-    let got = inspect::location_queue(*run, location, &mut places);
-    put_queued(out, "queue", location, got, &places)
+// The queues of all locations, and of the first number that is none.
+pub fn put_queues<W: Write>(out: &mut W, run: &Run) -> io::Result<()> {
+    for location in 0..=locations(run) {
+        put_queue(out, "queue", run, location, 128)?;
+    }
+    Ok(())
 }
 
 // How many places the queue of a location takes.
-fn queue_size(run: &Run, location: u32) -> usize
-    ensures { result ≤ 128 }
-{
-    let mut places = [PLACE; 128];
-    let got = inspect::location_queue(*run, location, &mut places);
-    got.unwrap_or(0).min(128)
+fn queue_size(run: &Run, location: u8) -> usize {
+    places_taken([PLACE; 128], |places| {
+        inspect::location_queue(*run, u32::from(location), places)
+    })
 }
 
-// The queue of a location, into a slice that is one place short; nothing where it takes none.
-fn put_short_queue<W: Write>(out: &mut W, run: &Run, location: u32) -> io::Result<()> {
-    let n = queue_size(run, location);
-    if n == 0 {
-        return Ok(());
-    }
-    let mut places = [PLACE; 128];
-    let got = inspect::location_queue(*run, location, &mut places[..n - 1]);
-    put_queued(out, "short", location, got, &places)
-}
-
-// The queues of all locations, and of the first number that is none.
-pub fn put_queues<W: Write>(out: &mut W, run: &Run) -> io::Result<()> {
-    for location in 0..=locations(run) as u32 {
-        put_queue(out, run, location)?;
-    }
-    Ok(())
-}
-
-// The queues of all locations, each into too short a slice.
+// The queues of all locations, each into a slice that is one place short; nothing where it takes none.
 pub fn put_short_queues<W: Write>(out: &mut W, run: &Run) -> io::Result<()> {
-    for location in 0..locations(run) as u32 {
-        put_short_queue(out, run, location)?;
+    for location in 0..locations(run) {
+        if let Some(room) = queue_size(run, location).checked_sub(1) {
+            put_queue(out, "short", run, location, room)?;
+        }
     }
     Ok(())
 }
 
-// `LABEL N HEX` or `LABEL refused 17`
-fn put_written<W: Write>(
-    out: &mut W,
-    label: &str,
-    got: Result<usize, Short>,
-    bytes: &[u8; LIST_BYTES],
-) -> io::Result<()> {
+// The writer, into so many places: `LABEL N HEX` or `LABEL refused 17`.
+fn put_list<W: Write>(out: &mut W, label: &str, run: &Run, room: usize) -> io::Result<()> {
+    let mut bytes = [BYTE; LIST_BYTES];
+    let got = inspect::list_bytes(*run, &mut bytes[..room.min(LIST_BYTES)]);
     match got {
         Ok(n) => {
             let (list, rest) = bytes.split_at(n.min(LIST_BYTES));
@@ -102,34 +95,17 @@ fn put_written<W: Write>(
         }
         Err(Short) => {
             writeln!(out, "{label} refused 17")?;
-            put_spoiled(out, bytes, BYTE)
+            put_spoiled(out, &bytes, BYTE)
         }
     }
 }
 
-// How many bytes the list has.
-fn list_size(run: &Run) -> usize
-    ensures { result ≤ 4805 }
-{
-    let mut bytes = [BYTE; LIST_BYTES];
-    let got = inspect::list_bytes(*run, &mut bytes);
-    got.unwrap_or(0).min(LIST_BYTES)
-}
-
-// The writer, into 4,805 places.
-pub fn put_list<W: Write>(out: &mut W, run: &Run) -> io::Result<()> {
-    let mut bytes = [BYTE; LIST_BYTES];
-    let got = inspect::list_bytes(*run, &mut bytes);
-    put_written(out, "write", got, &bytes)
-}
-
-// The writer, into a slice that is one place short.
-pub fn put_short_list<W: Write>(out: &mut W, run: &Run) -> io::Result<()> {
-    let n = list_size(run);
-    if n == 0 {
-        return Ok(());
+// The writer, into 4,805 places, and into a slice that is one place short.
+pub fn put_lists<W: Write>(out: &mut W, run: &Run) -> io::Result<()> {
+    put_list(out, "write", run, LIST_BYTES)?;
+    let size = places_taken([BYTE; LIST_BYTES], |bytes| inspect::list_bytes(*run, bytes));
+    match size.checked_sub(1) {
+        Some(room) => put_list(out, "short", run, room),
+        None => Ok(()),
     }
-    let mut bytes = [BYTE; LIST_BYTES];
-    let got = inspect::list_bytes(*run, &mut bytes[..n - 1]);
-    put_written(out, "short", got, &bytes)
 }

@@ -19,7 +19,7 @@ mod searches;
 mod text;
 
 use cases::put_case;
-use file::{case_ends, kinds_known};
+use file::{Cases, kinds_known};
 use text::put_bad_file;
 
 // How many bytes the longest file has.
@@ -27,21 +27,11 @@ const ROOM: usize = 65536;
 
 // All cases of a file.
 fn put_cases<W: Write>(out: &mut W, bytes: &[u8]) -> io::Result<()> {
-    let mut number = 0;
-    let mut at = 0;
-    while at < bytes.len() {
-        let Some(ends) = case_ends(bytes, at) else {
-            return put_bad_file(out);
-        };
-        let list = &bytes[at + 2..ends.list];
-        let numbers = &bytes[ends.list + 2..ends.memory];
-        let calls = &bytes[ends.memory + 2..ends.calls];
-        if !kinds_known(calls) {
-            return put_bad_file(out);
+    for (number, case) in Cases(bytes).enumerate() {
+        match case {
+            Some(case) if kinds_known(case.calls) => put_case(out, number, case)?,
+            _ => return put_bad_file(out),
         }
-        put_case(out, number, list, numbers, calls)?;
-        number += 1;
-        at = ends.calls;
     }
     Ok(())
 }

@@ -2,7 +2,6 @@
 use crate::asks::{put_counts, put_memory, put_record};
 use runtime::Run;
 use std::io::{self, Write};
-use turns::MoveRefusal;
 
 // How many moves were made, and the run behind them.
 #[derive(Clone, Copy)]
@@ -11,26 +10,18 @@ struct Outcome {
     run: Run,
 }
 
-// 0, 25, or the refusal of the call.
-fn move_number(answer: Result<(), MoveRefusal>) -> u8 {
-    match answer {
-        Ok(()) => 0,
-        Err(refusal) => u8::from(refusal),
-    }
-}
-
 // The record, behind a move, of the task that was foremost before; nothing where none was left.
 fn put_foremost<W: Write>(out: &mut W, before: &Run, after: &Run) -> io::Result<()> {
-    if before.left == 0 {
-        return Ok(());
+    match before.order.as_slice().first() {
+        Some(task) => put_record(out, "move record", after, u32::from(*task)),
+        None => Ok(()),
     }
-    put_record(out, "move record", after, u32::from(before.order[0]))
 }
 
 // The lines of one move.
 fn put_move<W: Write>(out: &mut W, run: &Run) -> io::Result<()> {
     let moved = turns::foremost_move(*run);
-    write!(out, "move {}", move_number(moved.answer))?;
+    write!(out, "move {}", moved.answer.err().map_or(0, u8::from))?;
     put_counts(out, &moved.run)?;
     put_memory(out, "move entries", &moved.run)?;
     put_foremost(out, run, &moved.run)

@@ -1,5 +1,5 @@
 -- The two ways in which a call keeps its promise: refused, and taken. Assumes nothing.
-use Rattle.std.proofs.Common.{Result, Ok, Err, ◌≡◌, ℕ, ◌+◌, ◌-◌, ◌%◌, ◌^◌, ◌<◌, ◌≤◌, Bool, true, false, List, [], ◌∷◌, length, take, set, sym, refl, ap, ◌∙◌, subst, arith, length-set, length-take}
+use Rattle.std.proofs.Common.{Result, Ok, Err, ◌≡◌, ℕ, ◌+◌, ◌%◌, ◌^◌, ◌<◌, ◌≤◌, Bool, true, false, List, [], ◌∷◌, length, take, set, sym, refl, ap, ◌∙◌, subst, arith, length-set, length-take}
 use native.Mathlib.Decide.{ℕ_discrete}
 use Rattle.tasklist.specs.Decode.{accepted}
 use Rattle.tasklist.specs.Tables.{Holds, list_of}
@@ -46,11 +46,11 @@ started n run = applied n (with_state 2 (record_of run n)) run.order run.left (s
 
 -- "the job leaves the order and its state becomes 3"
 pub record EndedAs (n place : ℕ) (from r : Parts) : Type 0 where
-  pub run : r ≡ applied n (with_state 3 (record_of from n)) r.order (from.left - 1) (end_weight (context_of from)) from
-  pub whole : length from.order ≡ 128 → length r.order ≡ 128
+  pub run : r ≡ applied n (with_state 3 (record_of from n)) r.order r.left (end_weight (context_of from)) from
+  pub whole : length r.order ≡ 128
   pub order :
-      length from.order ≡ 128 → place < from.left → from.left ≤ 128
-      → take (from.left - 1) r.order ≡ without place (take from.left from.order)
+      place < from.left → from.left ≤ 128
+      → (r.left + 1 ≡ from.left) × (take r.left r.order ≡ without place (take from.left from.order))
 
 -- A call's run alone.
 pub one_call : (a : Action) (run : Parts) (n : ℕ) (given : Result Unit CallRefusal) (next : Parts) → CalledAs a run n given next → CallsMade (call_of a n ∷ []) run next
@@ -221,12 +221,13 @@ end_taken run n place next below h e =
         let own = with_state 3 (record_of run n) in
         let w = end_weight (context_of run) in
         let light : w < 2 ^ 24 = omega (arith, weights_light (context_of run) s.weights 1) in
-        let same : take (run.left - 1) next.order ≡ splice n (places n (own_effect (task_from own (row n run.modes)) true w)) (take run.left run.order) =
-        unfold places stays in e.order s.order p.within s.left ∙ left_out run n place s p in
+        let out = e.order p.within s.left in
+        let same : take next.left next.order ≡ splice n (places n (own_effect (task_from own (row n run.modes)) true w)) (take run.left run.order) =
+        unfold places stays in out.1 ∙ left_out run n place s p in
         let effect : own_effect (task_from own (row n run.modes)) true w ≡ end_effect run n =
         ap (λ t. own_effect (in_state 3 t) true w) (sym (own_task run s n below)) in (
-          ap model e.run ∙ applied_model run s n below own next.order (run.left - 1) w true refl light same
+          ap model e.run ∙ applied_model run s n below own next.order next.left w true refl light same
               ∙ ap (λ x. apply n x (model run)) effect,
           subst Whole (sym e.run)
-              (applied_whole run s n below own next.order (run.left - 1) w true refl light same (e.whole s.order) (omega (arith, s.left))),
+              (applied_whole run s n below own next.order next.left w true refl light same e.whole (omega (arith, s.left, out.0))),
         )

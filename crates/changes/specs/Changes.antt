@@ -1,5 +1,6 @@
 -- What a start and an end change of a run, by the parts of the run that they look at.
-use Rattle.std.specs.Prelude.{◌≡◌, ℕ, ◌+◌, ◌%◌, ◌^◌, ◌≤◌, List, length, slice_set, Result, Ok, Err}
+use Rattle.std.specs.Prelude.{◌≡◌, ℕ, ◌+◌, ◌%◌, ◌^◌, ◌≤◌, List, length, slice_set, None, Result, Ok, Err}
+use Rattle.arrays.specs.declared.order.Order.{Order}
 use Rattle.semantics.specs.declared.Record.{Record}
 use Rattle.semantics.specs.declared.CallRefusal.{CallRefusal}
 use Rattle.semantics.specs.Plan.{Action, start, «end»}
@@ -23,23 +24,15 @@ pub record WholeRun (run : Parts) : Type 0 where
   pub order : length run.order ≡ 128
   pub left : run.left ≤ 128
 
--- "Each accepted call adds 1 to calls and its weight to record and run."
-abbrev pub counted : Record → ℕ → ℕ → Change
-counted t left w =
-    record {
-      own = heavier w t;
-      left = left;
-      weight = w;
-      block = record { first = 0; apart = 0; children = 0 };
-      made = t;
-    }
+-- "Each accepted call adds 1 to calls and its weight to record and run."; no task is made
+abbrev pub counted : Record → ℕ → Change
+counted t w = record { own = heavier w t; weight = w; made = None }
 
 -- the run with a change of task n put into it
 abbrev pub put : ℕ → Change → Parts → Parts
 put n c run =
     record run {
       records = slice_set run.records n c.own;
-      left = c.left;
       calls = (run.calls + 1) % 2 ^ 32;
       weight = (run.weight + c.weight) % 2 ^ 32;
     }
@@ -50,18 +43,18 @@ ChangeOf a n from next (Err k) = SoundRun from → decided from a n ≡ refuse (
 ChangeOf a n from next (Ok c) = CalledAs a from n (Ok tt) (next c)
 
 -- a start, by the order, the modes, the task's own record and the weights
-abbrev pub StartedBy : List ℕ → List ℕ → ℕ → Record → ℕ → List ℕ → Result Change CallRefusal → Type 0
-StartedBy order modes left own n weights r =
+abbrev pub StartedBy : Order → List ℕ → Record → ℕ → List ℕ → Result Change CallRefusal → Type 0
+StartedBy order modes own n weights r =
     (run : Parts) → record_of run n ≡ own → run.weights ≡ weights
-    → ChangeOf start n (with_parts run.tables run.memory modes order left run)
-    (λ c. put n c (with_parts run.tables run.memory modes order left run)) r
+    → ChangeOf start n (with_parts run.tables run.memory modes order.places order.left run)
+    (λ c. put n c (with_parts run.tables run.memory modes order.places order.left run)) r
 
 -- an end, which leaves the order `after`: the very same where it is refused
-abbrev pub EndedBy : List ℕ → List ℕ → ℕ → Record → ℕ → ℕ → List ℕ → Result Change CallRefusal → Type 0
-EndedBy order after left own size n weights (Err k) =
+abbrev pub EndedBy : Order → Order → Record → ℕ → ℕ → List ℕ → Result Change CallRefusal → Type 0
+EndedBy order after own size n weights (Err k) =
     (after ≡ order)
     × ((run : Parts) → record_of run n ≡ own → run.weights ≡ weights → BodySize size own run
-    → ChangeOf «end» n (ordered order left run) (λ c. put n c (ordered after left run)) (Err k))
-EndedBy order after left own size n weights (Ok c) =
+    → ChangeOf «end» n (ordered order.places order.left run) (λ c. put n c (ordered after.places after.left run)) (Err k))
+EndedBy order after own size n weights (Ok c) =
     (run : Parts) → record_of run n ≡ own → run.weights ≡ weights → BodySize size own run
-    → ChangeOf «end» n (ordered order left run) (λ c. put n c (ordered after left run)) (Ok c)
+    → ChangeOf «end» n (ordered order.places order.left run) (λ c. put n c (ordered after.places after.left run)) (Ok c)

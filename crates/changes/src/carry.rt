@@ -4,7 +4,6 @@ ghost use Rattle.changes.specs.Changes.{counted};
 
 use crate::Change;
 use semantics::Record;
-use tables::Block;
 
 // A number of the table of weights: start, end, then the codes.
 pub fn weight_at(weights: [u16; 15], place: usize) -> u32
@@ -14,22 +13,16 @@ pub fn weight_at(weights: [u16; 15], place: usize) -> u32
     u32::from(weights[place])
 }
 
-// "Each accepted call adds 1 to calls and its weight to record and run."
-pub fn changed(own: Record, left: usize, weight: u32) -> Change
-    ensures { result ≡ counted own left weight }
+// "Each accepted call adds 1 to calls and its weight to record and run." No task is made.
+pub fn changed(own: Record, weight: u32) -> Change
+    ensures { result ≡ counted own weight }
 {
     Change {
         own: Record {
             weight: own.weight.wrapping_add(weight),
             ..own
         },
-        left,
         weight,
-        block: Block {
-            first: 0,
-            apart: 0,
-            children: 0,
-        },
-        made: own,
+        made: None,
     }
 }

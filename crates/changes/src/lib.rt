@@ -4,16 +4,20 @@
 use semantics::Record;
 use tables::Block;
 
-// What an accepted call changes: the task's record, how many tasks are left, the call's weight, and the tasks made. The memory,
+// What an accepted call changes: the task's record, the call's weight, and the tasks made, none by a start or an end. The memory,
 // the modes and the order are changed where they stand. A refused call changes nothing.
 #[derive(Clone, Copy)]
 pub struct Change {
     pub own: Record,
-    pub left: usize,
     pub weight: u32,
-    // the numbers of the tasks made, and the record of the foremost
+    pub made: Option<Made>,
+}
+
+// The tasks that a step makes: their numbers, and the record of the foremost.
+#[derive(Clone, Copy)]
+pub struct Made {
     pub block: Block,
-    pub made: Record,
+    pub record: Record,
 }
 
 mod calls;

@@ -26,10 +26,8 @@ struct Session {
 fn opened(folder: &Folder) -> Result<Run, OpenRefusal>
     ensures { OpenedFrom folder.now.jobs.read folder.now.jobs.buffer (take (size_of folder.now.library.read) folder.now.library.buffer) result }
 {
-    match folder.jobs.bytes() {
-        Some(jobs) => wording::open_files(jobs, folder.library_bytes()),
-        None => Err(OpenRefusal::List(Refusal::Incomplete)),
-    }
+    let jobs = folder.jobs.bytes().ok_or(Refusal::Incomplete)?;
+    wording::open_files(jobs, folder.library_bytes())
 }
 
 // Feeds a piece that is not too long, where there is room for all its lines: the whole of it is used.
@@ -80,7 +78,7 @@ fn serve<I: Read>(rt: &impl Print, input: &mut I, run: Run) -> io::Result<()> {
 // The line of a failed open.
 fn refuse(rt: &impl Print, refusal: OpenRefusal) -> io::Result<()> {
     let mut out = [0u8; 16];
-    let n = wording::open_line(refusal, &mut out);
+    let n = wording::open_line(Err(refusal), &mut out);
     rt.write_all(&out[..n])
 }
 

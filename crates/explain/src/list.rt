@@ -3,35 +3,34 @@ ghost use Rattle.std.specs.Prelude.{◌<◌};
 
 use crate::words::{Access, Form};
 use finding::{job_of, last_of};
-use listing::{body_count, body_size, footprint_count, footprint_size, instruction_at, line_at};
+use listing::{body_count, body_instructions, footprint_count, footprint_lines};
 use std::io;
 use tasklist::Tables;
 
 // A footprint, its lines behind commas.
-fn print_footprint(rt: &impl Print, tables: Tables, f: usize) -> io::Result<()> {
+fn print_footprint(rt: &impl Print, tables: &Tables, f: usize) -> io::Result<()> {
     print!(rt; "footprint {f}:")?;
-    let size = footprint_size(tables, f);
-    if size == 0 {
+    let [first, others @ ..] = footprint_lines(tables, f) else {
         return println!(rt; " none");
-    }
-    for j in 0..size {
-        let comma = if j == 0 { "" } else { "," };
-        print!(rt; "{comma} {}", Access(line_at(tables, f, j)))?;
+    };
+    print!(rt; " {}", Access(*first))?;
+    for line in others {
+        print!(rt; ", {}", Access(*line))?;
     }
     println!(rt)
 }
 
 // A body, an instruction on each line behind its place.
-fn print_body(rt: &impl Print, tables: Tables, s: usize) -> io::Result<()> {
+fn print_body(rt: &impl Print, tables: &Tables, s: usize) -> io::Result<()> {
     println!(rt; "sheet {s}:")?;
-    for i in 0..body_size(tables, s) {
-        println!(rt; "    {i}: {}", Form(instruction_at(tables, s, i)))?;
+    for (i, instruction) in body_instructions(tables, s).iter().enumerate() {
+        println!(rt; "    {i}: {}", Form(*instruction))?;
     }
     Ok(())
 }
 
 // The task of a number: its block, and what makes it.
-fn print_job(rt: &impl Print, tables: Tables, n: usize) -> io::Result<()>
+fn print_job(rt: &impl Print, tables: &Tables, n: usize) -> io::Result<()>
     requires { n < 128 }
 {
     let job = job_of(tables, n);
@@ -55,7 +54,7 @@ fn print_job(rt: &impl Print, tables: Tables, n: usize) -> io::Result<()>
 }
 
 // The whole list.
-pub fn print_list(rt: &impl Print, tables: Tables) -> io::Result<()> {
+pub fn print_list(rt: &impl Print, tables: &Tables) -> io::Result<()> {
     println!(rt; "entries {}", tables.locations)?;
     for f in 0..footprint_count(tables) {
         print_footprint(rt, tables, f)?;

@@ -3,7 +3,7 @@
 // the list layer alone.
 #![tactic(auto)]
 
-use host_files::{LIST_ROOM, fill, open_named};
+use host_files::{LIST_ROOM, fill_to_end, open_named};
 use std::env::{Env, FillError};
 use std::fs::Files;
 use std::io::{self, Read};
@@ -22,19 +22,17 @@ for a refused list, the refusal and the byte.";
 // Prints what a file's bytes hold.
 fn explain(rt: &impl Print, bytes: &[u8]) -> io::Result<()> {
     match reader::read(bytes) {
-        Ok(tables) => print_list(rt, tables),
+        Ok(tables) => print_list(rt, &tables),
         Err(refusal) => print_refused(rt, bytes, refusal),
     }
 }
 
-// Explains a file that is open. The buffer holds one byte more than the longest list, so that bytes left over show. A
-// short count is the file's end only if reading on gives no error.
+// Explains a file that is open. The buffer holds one byte more than the longest list, so that bytes left over show.
 fn explain_open<F: Read>(rt: &impl Print, file: &mut F) -> io::Result<()> {
     let mut bytes = [0u8; LIST_ROOM];
-    let n = fill(file, &mut bytes);
-    match file.read(&mut [0]) {
-        Ok(_) => explain(rt, &bytes[..n]),
-        Err(_) => println!(rt; "this file can't be read"),
+    match fill_to_end(file, &mut bytes) {
+        Some(n) => explain(rt, &bytes[..n]),
+        None => println!(rt; "this file can't be read"),
     }
 }
 
@@ -51,6 +49,7 @@ fn explain_file<R: Files + Print>(rt: &R, name: &[u8]) -> io::Result<()> {
 
 // Explains the files that the arguments name. `--help` is no name.
 fn run<R: Env + Files + Print>(rt: &R) -> io::Result<()> {
+    // Kept: a count in the place of `env::args`, which makes Strings on the heap and fails where one argument is no text.
     for i in 1..usize::MAX {
         let mut name = [0u8; 4096];
         match rt.arg(i, &mut name) {

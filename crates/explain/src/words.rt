@@ -60,6 +60,7 @@ pub struct Access(pub Line);
 impl fmt::Display for Access {
     fn fmt<W: fmt::Write>(&self, f: &mut fmt::Formatter<W>) -> fmt::Result {
         let value = self.0.value;
+        // Kept: a match over the number of a kind, since the tables hold any byte there.
         match self.0.kind {
             0 => write!(f, "read entry {value}"),
             1 => write!(f, "write entry {value}"),

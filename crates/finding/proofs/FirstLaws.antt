@@ -1,12 +1,14 @@
 -- Laws of a search from 0 on: what is left of it after the first i numbers.
 -- Assumes nothing.
 use Prim.Native.Nat.{ℕ, zero, suc, ◌+◌, ◌-◌, ◌≤◌, ◌<◌}
-use mathlib.Core.Path.{◌≡◌, refl, sym, ap, ◌∙◌}
+use mathlib.Core.Path.{◌≡◌, refl, sym, ap, subst, ◌∙◌}
 use mathlib.Core.Bool.{Bool, true, false, cond}
 use mathlib.Core.Logic.{◌⊎◌, inl, inr}
 use native.Mathlib.Omega.{arith}
 use native.Mathlib.Numerals.{add-one}
 use native.Mathlib.Nat.{add-zero}
+use Prim.Native.Nat.{zero-le}
+use Rattle.std.specs.Prelude.{Option, Some, None, MatchOption, unwrap_or}
 use Rattle.finding.specs.Search.{first_from}
 
 -- one number of the search
@@ -47,6 +49,18 @@ module _ (test : ℕ → Bool) (size : ℕ) where
   pub failed_all : (i : ℕ) → size ≤ i → Failed i → i ≡ first_from test 0 size
   unfolding Failed
   failed_all i h so_far = sym (so_far ∙ none_left test i (size - i) (omega arith))
+
+  -- what `find` over the numbers below the size answers is the search: the first that passes, or the size
+  failed_below : (i : ℕ) → i ≤ size → ((k : ℕ) → 0 ≤ k → k < i → test k ≡ false) → Failed i
+  failed_below zero h fails = failed_none
+  failed_below (suc i) h fails =
+      subst Failed (add-one i) (failed_next i (omega arith) (fails i zero-le (omega arith)) (failed_below i (omega arith) (λ k a b. fails k a (omega arith))))
+
+  pub first_found :
+      (r : Option ℕ) → MatchOption r ((k : ℕ) → 0 ≤ k → k < size → test k ≡ false)
+      (λ i. (0 ≤ i) × (i < size) × (test i ≡ true) × ((k : ℕ) → 0 ≤ k → k < i → test k ≡ false)) → unwrap_or r size ≡ first_from test 0 size
+  first_found None h = failed_all size (omega arith) (failed_below size (omega arith) h)
+  first_found (Some i) h = failed_passes i h.1 h.2 (failed_below i (omega (arith, h.1)) h.3)
 
 -- what holds at the first number and behind each that fails holds where the search ends
 pub first_keeps : (test : ℕ → Bool) (Q : ℕ → Type 0) → ((i : ℕ) → test i ≡ false → Q (suc i)) → (n k : ℕ) → Q n → Q (first_from test n k)

@@ -3,7 +3,7 @@ ghost use Rattle.std.specs.Prelude.{◌+◌, ◌-◌, ◌≤◌, ◌<◌, ◌≡
 ghost use Rattle.finding.specs.Jobs.{child_of, fanned, made, holder, numbered};
 
 use crate::Job;
-use listing::{body_size, instruction_at, task_count};
+use listing::{body_instructions, task_count};
 use tasklist::{Instruction, Tables, added};
 
 // Where an instruction makes tasks: the task that it belongs to, its place in that one's body, the first number that it
@@ -32,14 +32,11 @@ impl Spot {
             depth: self.depth,
         }
     }
-
     // The task whose block holds `k` that an instruction makes here; the one that it belongs to where it is no spawn and no
     // fan.
     #[tactic(auto, unfolding(crate::specs::Jobs::made))]
-    fn made_by(self, tables: Tables, k: usize, instruction: Instruction) -> Job
-        requires first_le_k { self.first ≤ k }
-        requires k_bound { k < 128 }
-        ensures { result ≡ made tables self.job self.place self.first k self.depth instruction }
+    fn made_by(self, tables: &Tables, k: usize, instruction: Instruction) -> Job
+        ensures { result ≡ made tables.now self.job self.place self.first k self.depth instruction }
     {
         match instruction {
             Instruction::Spawn { body, footprint } => self.child(body, footprint, 0),
@@ -55,12 +52,12 @@ impl Spot {
 
 // The child of a fan whose block holds number `k`, from the fan's first child. Blocks of no numbers hold none.
 #[tactic(auto, unfolding(crate::specs::Jobs::fanned))]
-fn fanned_to(tables: Tables, k: usize, first: Job) -> Job
-    requires { (first.number ≤ k) × (k < 128) }
-    ensures { result ≡ fanned tables k first }
+fn fanned_to(tables: &Tables, k: usize, first: Job) -> Job
+    ensures { result ≡ fanned tables.now k first }
 {
     let count = usize::from(task_count(tables, first.body));
-    let ahead = (k - first.number).checked_div(count).unwrap_or(0);
+    let above = k.saturating_sub(first.number);
+    let ahead = above.checked_div(count).unwrap_or(0);
     Job {
         number: first.number + ahead * count,
         child: ahead,
@@ -69,15 +66,15 @@ fn fanned_to(tables: Tables, k: usize, first: Job) -> Job
 }
 
 // The child of `job` whose block holds number `k`, above the task's own; `job` itself where there is none.
-fn holder_of(tables: Tables, job: Job, k: usize, depth: usize) -> Job
+fn holder_of(tables: &Tables, job: Job, k: usize, depth: usize) -> Job
     requires number_lt_k { job.number < k }
     requires k_bound { k < 128 }
-    ensures { result ≡ holder tables job k depth }
+    ensures { result ≡ holder tables.now job k depth }
 {
     let mut number = job.number + 1;
-    for place in 0..body_size(tables, job.body) {
-        let instruction = instruction_at(tables, job.body, place);
-        let next = number + added(instruction, &tables.counts);
+    let instructions = body_instructions(tables, job.body);
+    for (place, instruction) in instructions.iter().enumerate() {
+        let next = number + added(*instruction, &tables.counts);
         if k < next {
             let spot = Spot {
                 job,
@@ -85,7 +82,7 @@ fn holder_of(tables: Tables, job: Job, k: usize, depth: usize) -> Job
                 first: number,
                 depth,
             };
-            return spot.made_by(tables, k, instruction);
+            return spot.made_by(tables, k, *instruction);
         }
         number = next;
     }
@@ -94,9 +91,9 @@ fn holder_of(tables: Tables, job: Job, k: usize, depth: usize) -> Job
 
 // The task of number `k`, from the first one (body 0, made by none) down to the blocks that hold it. A spawn names a higher
 // body, so there are fewer than 32 tasks above it.
-pub fn job_of(tables: Tables, k: usize) -> Job
+pub fn job_of(tables: &Tables, k: usize) -> Job
     requires { k < 128 }
-    ensures { result ≡ numbered tables k }
+    ensures { result ≡ numbered tables.now k }
 {
     let mut job = Job::default();
     for depth in 0..32 {
@@ -109,9 +106,9 @@ pub fn job_of(tables: Tables, k: usize) -> Job
 }
 
 // The last number of the block of the task that has number `n` and runs a body.
-pub fn last_of(tables: Tables, n: usize, body: usize) -> usize
+pub fn last_of(tables: &Tables, n: usize, body: usize) -> usize
     requires { n < 128 }
-    ensures { result ≡ n + get_or tables.counts body 1 - 1 }
+    ensures { result ≡ n + get_or tables.now.counts body 1 - 1 }
 {
     (n + usize::from(task_count(tables, body))).saturating_sub(1)
 }

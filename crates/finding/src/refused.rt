@@ -19,10 +19,7 @@ pub fn whole(bytes: &[u8]) -> bool
 pub fn refused_end(bytes: &[u8]) -> usize
     ensures { result ≡ shortest_whole bytes.now }
 {
-    for n in 0..bytes.len() {
-        if whole(&bytes[..n]) {
-            return n;
-        }
-    }
-    bytes.len()
+    (0..bytes.len())
+        .find(|&n| whole(&bytes[..n]))
+        .unwrap_or(bytes.len())
 }

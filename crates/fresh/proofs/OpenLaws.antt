@@ -149,7 +149,7 @@ module _
         same_run (model r) (initial under numbers)
         (ap (λ k. take k r.memory) (ap (λ x. x.locations) i.tables ∙ sym fits) ∙ i.held)
         fresh_tasks
-        (ap (λ k. take k r.order) i.left ∙ ap (take 1) i.order)
+        (ap (λ k. take k r.order.places) i.left ∙ ap (take 1) i.order)
         i.calls
         i.weight
 

@@ -1,5 +1,5 @@
 // Opening a run.
-ghost use Rattle.std.specs.Prelude.{◌≡◌, length};
+ghost use Rattle.std.specs.Prelude.{◌≡◌};
 ghost use Rattle.semantics.specs.Run.{fixed_weights, is_weight};
 ghost use Rattle.semantics.specs.Access.{every};
 ghost use Rattle.semantics.specs.Operations.{open_asked};
@@ -16,31 +16,18 @@ pub fn todays_weights() -> [u16; 15]
     [5, 2, 1, 1, 1, 1, 3, 4, 1, 8, 1, 8, 4, 1, 1]
 }
 
+// Whether each number is in 1 to 1000.
 #[tactic(auto, unfolding(semantics::specs::Run::is_weight))]
-fn is_weight(number: u16) -> bool
-    ensures { result ≡ is_weight number }
-{
-    (1..=1000).contains(&number)
-}
-
 fn all_weights(numbers: &[u16]) -> bool
     ensures { result ≡ every is_weight numbers.now }
 {
-    numbers.iter().all(|number| is_weight(*number))
-}
-
-// The table of a run.
-fn table_of(numbers: &[u16]) -> [u16; 15]
-    requires { length numbers.now ≡ 15 }
-    ensures { result ≡ numbers.now }
-{
-    let mut table = [0u16; 15];
-    table.copy_from_slice(numbers);
-    table
+    numbers.iter().all(|number| (1..=1000).contains(number))
 }
 
 // Opens a run of a job list with a memory of as many numbers as it has locations, and a table of weights: as check, then 8,
 // 21, 22.
+// Kept: list, memory and weights side by side. Whoever calls has three slices, and open takes them apart in its first lines: a
+// struct of them would be built at each call for that alone.
 pub fn open(list: &[u8], memory: &[u32], weights: &[u16]) -> Result<Run, OpenRefusal>
     ensures { OpenedAs list.now weights.now (open_asked list.now memory.now weights.now) result }
 {
@@ -49,12 +36,9 @@ pub fn open(list: &[u8], memory: &[u32], weights: &[u16]) -> Result<Run, OpenRef
     if memory.len() != locations {
         return Err(OpenRefusal::Length);
     }
-    if weights.len() != 15 {
-        return Err(OpenRefusal::Table);
-    }
-    if !all_weights(weights) {
+    let table = <[u16; 15]>::try_from(weights).map_err(|_| OpenRefusal::Table)?;
+    if !all_weights(&table) {
         return Err(OpenRefusal::Weight);
     }
-    let table = table_of(weights);
     Ok(initial(tables, memory, table))
 }

@@ -3,6 +3,7 @@ ghost use Rattle.std.specs.Prelude.{◌-◌, ◌≤◌, ◌≡◌, ◌++◌, len
 ghost use Rattle.plans.specs.View.{blank_record};
 ghost use Rattle.runtime.specs.Parts.{InitialOf};
 
+use arrays::Order;
 use runtime::Run;
 use semantics::Record;
 use tasklist::Tables;
@@ -58,8 +59,10 @@ pub fn initial(tables: Tables, numbers: &[u32], weights: [u16; 15]) -> Run
         memory,
         records,
         modes,
-        order: [0u8; 128],
-        left: 1,
+        order: Order {
+            places: [0u8; 128],
+            left: 1,
+        },
         calls: 0,
         weight: 0,
         weights,

@@ -1,20 +1,14 @@
 -- Laws of a footprint's modes: the model's faults by their numbers, and its lines one by one. Assumes nothing.
-use Prim.Native.Nat.{ℕ, zero, suc, ◌+◌, ◌*◌, ◌-◌, min, ◌≤◌, ◌<◌}
+use Prim.Native.Nat.{ℕ, zero, suc, ◌+◌, ◌≤◌, ◌<◌}
 use mathlib.Core.Path.{◌≡◌, refl, sym, ap, ◌∙◌}
 use mathlib.Core.List.{List, [], ◌∷◌, ◌++◌}
 use mathlib.Core.Logic.{◌≢◌}
 use native.Mathlib.Omega.{arith}
 use native.Mathlib.Numerals.{add-one}
-use lib.ListN.{length, take, drop, get_or, set, drop_of_length-le}
+use lib.ListN.{length, drop, get_or, set, drop_of_length-le}
 use lib.Seq.{drop-cons}
 use borrow.Author.Tests.{eq-eqb, ne_eqb}
-use Rattle.std.specs.Prelude.{slice_range}
-use Rattle.std.proofs.lemmas.List.{take_min}
 use Rattle.tasklist.specs.declared.Line.{Line}
-use Rattle.tasklist.specs.declared.Tables.{Tables}
-use Rattle.tasklist.specs.TaskList.{footprint_of}
-use Rattle.tasklist.specs.Tables.{list_of}
-use Rattle.tasklist.proofs.PlaceLaws.{rows_at}
 use Rattle.tasklist.specs.Accepted.{blank_line}
 use Rattle.semantics.specs.Run.{Task, no_modes}
 use Rattle.semantics.specs.Access.{Access, access_fault}
@@ -23,7 +17,7 @@ use Rattle.ahead.specs.Ahead.{access}
 use Rattle.semantics.specs.declared.Fault.{Fault}
 use Rattle.semantics.specs.declared.Fault.TheVariants.{Outside, Mode, TooLarge, ZeroDivisor}
 use Rattle.semantics.specs.Answers.{fault_number}
-use Rattle.grants.specs.Grants.{named_location, named_mode, spawner}
+use Rattle.grants.specs.Grants.{named_location, named_mode, spawner, child_registers, child_grant}
 
 -- the fault of an access, by the own mode and the mode asked for
 pub reader_reads : (own asked : ℕ) → own ≡ 1 → asked ≤ 1 → 0 ≡ access_fault own asked
@@ -143,23 +137,6 @@ denies Mode g = refl
 denies TooLarge g = refl
 denies ZeroDivisor g = refl
 
--- the lines of a footprint, in the code's terms
-module _ (t : Tables) (f : ℕ) (w : length t.widths ≡ 32) where
-  used : (n : ℕ) → n ≡ min (get_or (take (min t.footprints 32) t.widths) f 0) 8 → take n (drop (8 * f) t.lines) ≡ footprint_of (list_of t) f
-  unfolding footprint_of list_of
-  used n q =
-      ap (λ m. take m (drop (8 * f) t.lines))
-      (q ∙ ap (λ l. min (get_or l f 0) 8) (ap (λ k. take (min t.footprints k) t.widths) (sym w) ∙ take_min t.footprints t.widths))
-      ∙ sym (rows_at 8 (take t.footprints t.widths) t.lines f)
-
-  pub lines_are :
-      (n : ℕ) → n ≡ min (get_or (take (min t.footprints 32) t.widths) f 0) 8
-      → slice_range t.lines (8 * f) (8 * f + n) ≡ footprint_of (list_of t) f
-  lines_are n q = let same : 8 * f + n - 8 * f ≡ n = omega arith in ap (λ m. take m (drop (8 * f) t.lines)) same ∙ used n q
-
-  pub no_lines : (n : ℕ) → n ≡ min (get_or (take (min t.footprints 32) t.widths) f 0) 8 → n ≡ 0 → [] ≡ footprint_of (list_of t) f
-  no_lines n q z = ap (λ m. take m (drop (8 * f) t.lines)) (sym z) ∙ used n q
-
 -- the first j lines are granted these modes
 module _ (registers own : List ℕ) (ls : List Line) where
   pub Given : List ℕ → ℕ → Type 0
@@ -200,6 +177,27 @@ module _ (registers own : List ℕ) (ls : List Line) where
   unfolding Given all_targets grant
   given_all modes j h e =
       sym (e ∙ ap (λ d. grant (spawner registers own) modes (all_targets (spawner registers own) d)) (drop_of_length-le ls h))
+
+-- the same of child i, by its registers
+module _ (registers own : List ℕ) (ls : List Line) (i k : ℕ) (seen : List ℕ) (same : k ≡ i) (q : seen ≡ child_registers k registers) where
+  by_registers : child_modes (spawner seen own) ls ≡ child_grant registers own ls i
+  unfolding child_grant
+  by_registers = ap (λ rs. child_modes (spawner rs own) ls) (q ∙ ap (λ n. child_registers n registers) same)
+
+  pub child_all : (modes : List ℕ) (j : ℕ) → length ls ≤ j → Given seen own ls modes j → granted modes ≡ child_grant registers own ls i
+  child_all modes j h e = given_all seen own ls modes j h e ∙ by_registers
+
+  pub child_denied :
+      (modes : List ℕ) (j location asked : ℕ) → j < length ls → location ≡ named_location seen (get_or ls j blank_line)
+      → asked ≡ named_mode (get_or ls j blank_line) → Given seen own ls modes j → (f : Fault) (mine : ℕ)
+      → fault_number f ≡ access_fault mine asked → mine ≡ get_or own location 0
+      → denied (fault_number f) ≡ child_grant registers own ls i
+  child_denied modes j location asked h p m e f mine a o =
+      given_denied seen own ls modes j location asked (get_or ls j blank_line) h refl p m e f (a ∙ ap (λ x. access_fault x asked) o)
+      ∙ by_registers
+
+-- for what a footprint gives a child
+pub ruleset lines_granted = (given_none, given_more, child_all, child_denied)
 
 -- a task's registers and modes are all that matters
 same_targets : (t : Task) (ls : List Line) → all_targets (spawner t.registers t.modes) ls ≡ all_targets t ls

@@ -5,12 +5,9 @@ use mathlib.Core.List.{List}
 use native.Mathlib.Omega.{arith}
 use native.Mathlib.Numerals.{add-one}
 use lib.ListN.{set}
-use Rattle.std.specs.Prelude.{Result}
-use Rattle.tasklist.specs.declared.Line.{Line}
 use Rattle.semantics.specs.Run.{no_modes}
-use Rattle.semantics.specs.Footprint.{Grant, denied, granted, child_modes}
-use Rattle.semantics.specs.declared.Fault.{Fault}
-use Rattle.grants.specs.Grants.{spawner, grant_of, child_registers, child_grant, unless_faulted, grants_from}
+use Rattle.semantics.specs.Footprint.{Grant, denied, granted}
+use Rattle.grants.specs.Grants.{child_registers, unless_faulted, grants_from}
 
 -- the registers of child i
 pub registers_first : (i : ℕ) (rs : List ℕ) → i ≡ 0 → rs ≡ child_registers i rs
@@ -24,13 +21,6 @@ registers_later (suc i) rs h = refl
 
 -- for the registers of a child
 pub ruleset own_numbers = (registers_first, registers_later)
-
--- what child i is given, by its registers
-pub child_given :
-    (registers own : List ℕ) (ls : List Line) (i : ℕ) (seen : List ℕ) → seen ≡ child_registers i registers → (g : Result (List ℕ) Fault)
-    → grant_of g ≡ child_modes (spawner seen own) ls → grant_of g ≡ child_grant registers own ls i
-unfolding child_grant
-child_given registers own ls i seen q g h = h ∙ ap (λ rs. child_modes (spawner rs own) ls) q
 
 one_less : (k i : ℕ) → i < k → k - i ≡ suc (k - suc i)
 one_less k i h = omega arith
@@ -63,3 +53,6 @@ module _ (f : ℕ → Grant) (k : ℕ) where
   pub tested_all : (i : ℕ) (last : Grant) → k ≤ i → Tested i last → last ≡ grants_from f 0 k (granted no_modes)
   unfolding Tested grants_from
   tested_all i last h e = let q : k - i ≡ 0 = omega arith in sym (e ∙ ap (λ m. grants_from f i m last) q)
+
+-- for what the children are given
+pub ruleset children_granted = (tested_none, tested_more, tested_denied, tested_all)

@@ -1,5 +1,5 @@
 -- What a footprint's line names, what the code's answer to a footprint stands for, and what several children are given.
-use Rattle.std.specs.Prelude.{ℕ, zero, suc, List, [], ◌∷◌, Option, Some, None, Result, Ok, Err, get_or, set}
+use Rattle.std.specs.Prelude.{ℕ, zero, suc, List, [], ◌∷◌, Result, Ok, Err, get_or, set}
 use Rattle.tasklist.specs.declared.Line.{Line}
 use Rattle.semantics.specs.declared.Fault.{Fault}
 use Rattle.semantics.specs.Answers.{fault_number}
@@ -31,9 +31,9 @@ spawner registers modes =
     }
 
 -- the number of a fault, 0 for none
-abbrev pub fault_of : Option Fault → ℕ
-fault_of None = 0
-fault_of (Some k) = fault_number k
+abbrev pub fault_of : Result Unit Fault → ℕ
+fault_of (Err k) = fault_number k
+fault_of (Ok done) = 0
 
 -- the model's answer
 abbrev pub grant_of : Result (List ℕ) Fault → Grant

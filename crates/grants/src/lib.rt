@@ -4,4 +4,4 @@
 
 mod footprint;
 
-pub use footprint::{access_fault, child_registers, granted, granted_all, register_at};
+pub use footprint::{Spawner, access_fault, child_registers, location_at, register_at};

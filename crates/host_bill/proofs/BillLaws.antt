@@ -6,7 +6,7 @@ use mathlib.Core.Bool.{Bool, true, false, false≢true}
 use native.Mathlib.Omega.{arith}
 use Rattle.std.specs.Prelude.{Result, Ok, Err}
 use native.Mathlib.Nat.{zero-add}
-use lib.ListN.{length, take, drop, replicate, length-replicate}
+use lib.ListN.{length, take, drop, replicate, length-replicate, length-take}
 use lib.Seq.{take_at, length-take-le}
 use Rattle.tasklist.specs.Answers as Listed
 use Rattle.tasklist.specs.Tables.{list_of}
@@ -20,7 +20,7 @@ use Rattle.runtime.specs.View.{model, context_of, SoundRun}
 use Rattle.runtime.specs.Asked.{open_number, queue_answer, queue_out}
 use Rattle.wording.specs.Wording.{refused_line}
 use Rattle.wording.specs.Promises.{Wrote, PutAt, given}
-use Rattle.wording.proofs.ClosingLaws.{no_room, with_room, wrote_none}
+use Rattle.wording.proofs.WroteLaws.{no_room, with_room, wrote_none}
 use Rattle.wording.proofs.PutLaws.{put_then, put_behind, put_wrote}
 use Rattle.bill_shares.specs.Shares.{whole}
 use Rattle.bill_shares.proofs.ShareLaws.{shares_count}
@@ -156,15 +156,16 @@ module _
         pub printed_shared :
             {after₁ : List ℕ} {at : ℕ}
             → PutAt (ward_lines (take w.count w.numbers) (take w.count w.weights) (take w.count pence)) out 0 after₁ at
-            → at ≤ 50 * w.count → (after : List ℕ) (n : ℕ) → PutAt (told wards_word w.count sum bill) after₁ at after n
-            → n ≤ at + 52 → RunPrinted run bill out after n
-        printed_shared p few after n q most =
-            let both = put_then p q in
+            → at ≤ 50 * length (take w.count w.numbers) → (count : ℕ) → count ≡ w.count → (after : List ℕ) (n : ℕ)
+            → PutAt (told wards_word count sum bill) after₁ at after n → n ≤ at + 52 → RunPrinted run bill out after n
+        printed_shared {after₁} {at} p few count c after n q most =
+            let both = put_then p (subst (λ k. PutAt (told wards_word k sum bill) after₁ at after n) c q) in
+            let wards_few : length (take w.count w.numbers) ≤ 127 = omega (arith, length-take {A = ℕ} w.count w.numbers, f.few) in
             record {
               lines = λ s. subst (λ x. PutAt x out 0 after n) (text s) both;
-              most = omega (arith, f.few);
+              most = omega (arith, wards_few);
               long = both.long;
-              rest = put_behind _ out after n both (omega (arith, f.few, wide));
+              rest = put_behind _ out after n both (omega (arith, wards_few, wide));
             }
 
 -- what is printed of a run that was asked for

@@ -6,7 +6,6 @@ use Rattle.runtime.specs.View.{model, context_of, SoundRun}
 use Rattle.runtime.specs.Asked.{open_number}
 use Rattle.wording.specs.Wording.{refused_line}
 use Rattle.wording.specs.Promises.{Wrote, PutAt, given}
-use Rattle.bill_wards.specs.declared.Wards.{Wards}
 use Rattle.host_bill.specs.Lines.{bill_text, room}
 
 -- What is printed of a run, put at the front of a slice with room.
@@ -30,10 +29,3 @@ pub record BillPrinted (opened : Result Run OpenRefusal) (bill : ℕ) (before af
   pub whole : n ≡ length (take n after)
   pub long : length after ≡ length before
   pub rest : drop n after ≡ drop n before
-
--- the arrays are whole, with no more wards than places
-pub record Arrays (wards : Wards) (pence : List ℕ) : Type 0 where
-  pub numbers : length wards.numbers ≡ 128
-  pub weights : length wards.weights ≡ 128
-  pub shared : length pence ≡ 128
-  pub few : wards.count ≤ 128

@@ -3,11 +3,10 @@ ghost use Rattle.std.specs.Prelude.{◌+◌, ◌*◌, ◌^◌, ◌≤◌, ◌<�
 ghost use Rattle.wording.specs.Wording.{refused_line};
 ghost use Rattle.wording.specs.Promises.{PutAt};
 ghost use Rattle.host_bill.specs.Lines.{told, ward_lines, room};
-ghost use Rattle.host_bill.specs.Promises.{Arrays, RunPrinted, BillPrinted};
+ghost use Rattle.host_bill.specs.Promises.{RunPrinted, BillPrinted};
 
 use crate::ROOM;
 use bill_shares::PLACES;
-use bill_wards::Wards;
 use runtime::{OpenRefusal, Run};
 use wording::{put_number, put_word};
 
@@ -25,16 +24,15 @@ fn put_line(out: &mut [u8], at: usize, word: &[u8], number: u32, weight: u32, pe
     put_number(out, fifth, pence, b'\n')
 }
 
-// Puts a line for each of the first wards at the front.
-fn put_wards(wards: Wards, pence: [u32; PLACES], out: &mut [u8]) -> usize
-    requires { (room ≤ length out.old) × Arrays wards pence }
-    ensures put { PutAt (ward_lines (take wards.count wards.numbers) (take wards.count wards.weights) (take wards.count pence)) out.old 0 out.new result }
-    ensures most { result ≤ 50 * wards.count }
+// Puts a line for each ward at the front.
+fn put_wards(numbers: &[u8], weights: &[u32], pence: &[u32], out: &mut [u8]) -> usize
+    requires { 50 * length numbers.now ≤ length out.old }
+    ensures put { PutAt (ward_lines numbers.now weights.now pence.now) out.old 0 out.new result }
+    ensures most { result ≤ 50 * length numbers.now }
 {
     let mut stop = 0;
-    for i in 0..wards.count {
-        let number = u32::from(wards.numbers[i]);
-        stop = put_line(out, stop, b"job ", number, wards.weights[i], pence[i]);
+    for ((number, weight), pence) in numbers.iter().zip(weights).zip(pence) {
+        stop = put_line(out, stop, b"job ", u32::from(*number), *weight, *pence);
     }
     stop
 }
@@ -59,10 +57,23 @@ fn put_bill(run: Run, bill: u32, out: &mut [u8]) -> usize
         return put_refused(out, u8::from(refusal));
     }
     let wards = bill_wards::wards_of(run);
-    let at = put_wards(wards, pence, out);
+    let count = wards.count;
+    let at = put_wards(
+        &wards.numbers[..count],
+        &wards.weights[..count],
+        &pence[..count],
+        out,
+    );
     // The wards weigh no more than the run, whose weight has 32 bits.
-    let whole = u32::try_from(bill_shares::whole_of(wards.weights, wards.count)).unwrap_or(0);
-    put_line(out, at, b"wards ", wards.count as u32, whole, bill)
+    let whole = u32::try_from(bill_shares::whole_of(wards.weights, count)).unwrap_or(0);
+    put_line(
+        out,
+        at,
+        b"wards ",
+        u32::try_from(count).unwrap_or(0),
+        whole,
+        bill,
+    )
 }
 
 // All that is printed of a run that was opened, run by hand or led on by calls, at the front of `out`: the line of a failed open,

@@ -1,10 +1,10 @@
 // The files that the programs for a host read: jobs.bin and library.bin, each from its start up to its end or the buffer's.
 #![tactic(auto)]
 
-ghost use Rattle.std.specs.Prelude.{◌≡◌, ◌≤◌, length, take, IfOk, IfErr, OnSome, option_copied, option_map};
+ghost use Rattle.std.specs.Prelude.{◌≡◌, ◌≤◌, length, take, IfOk, IfErr, IfSome, OnSome, option_copied, option_map};
 ghost use Rattle.std.specs.Io.KnownBytes.{Consumes};
 ghost use Rattle.std.specs.Str.{IsUtf8};
-ghost use Rattle.host_files.specs.Files.{size_of, Within, Front, Taken, ReadsTo};
+ghost use Rattle.host_files.specs.Files.{size_of, Within, Front, Taken, ReadsTo, ReadsOn};
 
 use std::fs::{File, Files};
 use std::io::Read;
@@ -26,6 +26,7 @@ fn read_up_to<F: Read>(file: &mut F, buf: &mut [u8]) -> Result<usize, CutOff>
     ensures part { IfErr result (λ cut. Taken (F.remaining file.old) (F.remaining file.new) cut.bytes buf.new) }
 {
     let mut done = 0;
+    // Kept: it goes on by what was read, not by one. A `for` over a bound that no file reaches would hide when it ends.
     while done < buf.len() {
         match file.read(&mut buf[done..]) {
             Err(_) => return Err(CutOff { bytes: done }),
@@ -67,13 +68,22 @@ pub fn fill<F: Read>(file: &mut F, buf: &mut [u8]) -> usize
     ensures most { result ≤ length buf.new }
     ensures bytes { Consumes (F.remaining file.old) (F.remaining file.new) (take result buf.new) }
 {
-    match read_up_to(file, buf) {
-        Ok(n) => n,
-        Err(cut) => cut.bytes,
-    }
+    read_up_to(file, buf).unwrap_or_else(|cut| cut.bytes)
+}
+
+// Fills a buffer, and reads on by one byte: how many bytes it was filled with. A short count is the file's end only if reading
+// on gives no error: None where it gives one.
+pub fn fill_to_end<F: Read>(file: &mut F, buf: &mut [u8]) -> Option<usize>
+    ensures within { Within result buf.new }
+    ensures bytes { IfSome result (λ n. ReadsOn (F.remaining file.old) (F.remaining file.new) n buf.new) }
+{
+    let n = fill(file, buf);
+    file.read(&mut [0]).ok()?;
+    Some(n)
 }
 
 // What was read of a file: its bytes, or None where it can't be read.
+// Kept: a buffer of its full size and how much of it was read. There is no heap, and the programs' promises name both fields.
 #[derive(Drop)]
 pub struct Contents<const ROOM: usize> {
     pub buffer: [u8; ROOM],
@@ -92,10 +102,7 @@ impl<const ROOM: usize> Contents<ROOM> {
     pub fn bytes(&self) -> Option<&[u8]>
         ensures { option_copied result ≡ option_map (λ n. take n self.now.buffer) self.now.read }
     {
-        match self.read {
-            Some(n) => Some(&self.buffer[..n]),
-            None => None,
-        }
+        Some(&self.buffer[..self.read?])
     }
 }
 

@@ -14,10 +14,10 @@ use Rattle.semantics.proofs.Asked.{AskedCase, denied, given, asked_case}
 use Rattle.model_rounds.specs.Rounds.{Report, report, rounds_asked, most_workers}
 use Rattle.runtime.specs.declared.OpenRefusal.{OpenRefusal}
 use Rattle.runtime.specs.Asked.{open_number}
-use Rattle.run_rounds.specs.declared.RoundsTable.{RoundsTable}
+use Rattle.run_rounds.specs.declared.table.RoundsTable.{RoundsTable}
 use Rattle.run_rounds.specs.Reports.{TabledAs}
 use Rattle.wording.specs.Wording.{line, refused_line}
-use Rattle.wording.proofs.OpeningLaws.{asked_fitting}
+use Rattle.library.proofs.AskedLaws.{asked_fitting}
 use Rattle.host_rounds.specs.Lines.{used, row, rows, enough_from, calls_word, span_word, enough_line, table_lines, rounds_in, printed, files_asked, rounds_text}
 use Rattle.host_rounds.specs.Promises.{rounds_at, calls_in}
 

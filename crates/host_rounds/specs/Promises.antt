@@ -1,6 +1,6 @@
 -- What the parts promise each other.
 use Rattle.std.specs.Prelude.{ℕ, ◌-◌}
-use Rattle.run_rounds.specs.declared.RoundsTable.{RoundsTable}
+use Rattle.run_rounds.specs.declared.table.RoundsTable.{RoundsTable}
 use Rattle.run_rounds.specs.Reports.{tally_at}
 
 -- the rounds with so many workers that a table holds

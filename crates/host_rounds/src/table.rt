@@ -1,31 +1,28 @@
 // The whole table: calls and span, the lines, how many workers are enough.
-ghost use Rattle.std.specs.Prelude.{◌+◌, ◌≤◌, ◌≡◌, length, IfOk};
+ghost use Rattle.std.specs.Prelude.{◌+◌, ◌≤◌, ◌≡◌, length};
 ghost use Rattle.library.specs.Library.{memory_of};
 ghost use Rattle.semantics.specs.Run.{fixed_weights};
 ghost use Rattle.semantics.specs.Operations.{open_asked};
 ghost use Rattle.model_rounds.specs.Rounds.{most_workers};
-ghost use Rattle.run_rounds.specs.Reports.{TableSize, TabledAs};
+ghost use Rattle.run_rounds.specs.Reports.{TabledAs};
 ghost use Rattle.wording.specs.Promises.{Wrote, PutAt, given};
 ghost use Rattle.host_rounds.specs.Lines.{enough_from, enough_line, table_lines, room, rounds_text};
 ghost use Rattle.host_rounds.specs.Promises.{rounds_at, calls_in};
 
 use crate::ROOM;
 use crate::lines::put_rows;
-use run_rounds::RoundsTable;
+use run_rounds::{MOST_WORKERS, RoundsTable};
 use runtime::OpenRefusal;
 use wording::{open_line, put_number, put_word};
 
 // The least number of workers whose rounds equal the span; none where more than 16 would help.
 fn enough(table: RoundsTable) -> Option<u32>
-    requires { TableSize table }
     ensures { result ≡ enough_from most_workers 1 table.span (rounds_at table) }
 {
-    for (i, report) in table.reports.iter().enumerate() {
-        if report.rounds == table.span {
-            return Some(i as u32 + 1);
-        }
-    }
-    None
+    (1..=MOST_WORKERS)
+        .zip(&table.reports)
+        .find(|(_, report)| report.rounds == table.span)
+        .map(|(workers, _)| workers)
 }
 
 // Puts the last line.
@@ -43,7 +40,7 @@ fn put_enough(out: &mut [u8], at: usize, workers: Option<u32>) -> usize
 
 // Puts all lines at the front.
 fn put_table(table: RoundsTable, out: &mut [u8]) -> usize
-    requires { (room ≤ length out.old) × TableSize table }
+    requires { room ≤ length out.old }
     ensures put { PutAt (table_lines (calls_in table) table.span (rounds_at table)) out.old 0 out.new result }
     ensures most { result ≤ room }
 {
@@ -56,9 +53,9 @@ fn put_table(table: RoundsTable, out: &mut [u8]) -> usize
 }
 
 // The reports of a job list with the numbers of a library, four bytes for each, under today's weights.
+// Kept: two lines as in `wording::open_files`, which says why.
 fn files_table(jobs: &[u8], numbers: &[u8]) -> Result<RoundsTable, OpenRefusal>
-    ensures size { IfOk result TableSize }
-    ensures reports { TabledAs jobs.now (memory_of numbers.now) fixed_weights (open_asked jobs.now (memory_of numbers.now) fixed_weights) result }
+    ensures { TabledAs jobs.now (memory_of numbers.now) fixed_weights (open_asked jobs.now (memory_of numbers.now) fixed_weights) result }
 {
     let memory = library::read_numbers(numbers);
     run_rounds::rounds_table(jobs, memory.as_slice(), &fresh::todays_weights())
@@ -74,6 +71,6 @@ pub fn rounds_lines(jobs: &[u8], numbers: &[u8], out: &mut [u8]) -> usize
     }
     match files_table(jobs, numbers) {
         Ok(table) => put_table(table, out),
-        Err(refusal) => open_line(refusal, out),
+        Err(refusal) => open_line(Err(refusal), out),
     }
 }

@@ -1,18 +1,15 @@
--- What is asked of a run: the queue's places, counted and put, a task's record and its search. Assumes nothing.
-use Prim.Native.Nat.{ℕ, ◌+◌, ◌*◌, ◌≤◌, ◌<◌, min}
+-- What is asked of a run: the queue's places, a task's record and its search. Assumes nothing.
+use Prim.Native.Nat.{ℕ, zero, suc, ◌+◌, ◌*◌, ◌≤◌, ◌<◌}
 use mathlib.Core.Path.{◌≡◌, refl, sym, ap, ◌∙◌}
-use mathlib.Core.List.{List, [], ◌∷◌, ◌++◌, map}
+use mathlib.Core.List.{List, [], ◌∷◌, ◌++◌, map, append_assoc, append-nil}
 use mathlib.Core.Bool.{Bool, true, false, cond, not}
+use native.Mathlib.Numerals.{add-one}
 use native.Mathlib.Omega.{arith}
-use native.Mathlib.Nat.{zero-add}
-use lib.ListN.{length, take, drop, get_or, length-take}
-use lib.Seq.{sets, sets-eq, take-take}
+use lib.ListN.{length, take, drop, get_or, set, length-take}
+use lib.Seq.{take-take}
 use lib.Dec.{eqb}
-use lib.ListN.{length-append}
-use Rattle.std.specs.List.{count_by}
-use Rattle.std.proofs.lemmas.List.Sums.{sum_by-cons}
-use Rattle.std.proofs.lemmas.List.{take_min}
-use borrow.Author.Tests.{lt-ltb, le-ltb, le-leb, lt-leb, eq-eqb, ne_eqb}
+use Rattle.std.proofs.lemmas.List.{take_more_set}
+use borrow.Author.Tests.{lt-ltb, le-ltb, le-leb, lt-leb}
 use Rattle.tasklist.specs.Encode.{joined}
 use Rattle.tasklist.specs.Tables.{list_of}
 use Rattle.tasklist.specs.Answers as Listed
@@ -27,7 +24,7 @@ use Rattle.semantics.proofs.Order.{among_in}
 use Rattle.std.specs.Prelude.{Option, Some, None, Ok, Err}
 use Rattle.ahead.specs.declared.Searched.{Searched}
 use Rattle.arrays.specs.Rows.{row}
-use Rattle.arrays.specs.Places.{place_of}
+use Rattle.arrays.specs.Places.{unended, place_of}
 use Rattle.ahead.specs.Ahead.{searched_ahead, found_of}
 use Rattle.arrays.proofs.SpliceLaws.{placed, unplaced}
 use Rattle.ahead.proofs.SearchLaws.{search_by}
@@ -38,42 +35,31 @@ use Rattle.runtime.specs.Parts.{record_of, shown, shown_at, all_shown}
 use Rattle.runtime.specs.Asked.{queued, queue_answer, queue_out, QueuedAs}
 use Rattle.runtime.proofs.ViewLaws.{task_is, mode_is}
 
-pub shown_none : (k mode : ℕ) → mode ≡ 0 → shown k mode ≡ []
-unfolding shown
-shown_none k mode h = rw (eq-eqb mode 0 h) refl
-
-pub shown_one : (k mode : ℕ) → (mode ≡ 0 → ⊥) → shown k mode ≡ (k + 256 * mode) ∷ []
-unfolding shown
-shown_one k mode h = rw (ne_eqb mode 0 h) refl
-
--- those that are shown are counted
-one_shown : (k mode : ℕ) (b : Bool) → eqb mode 0 ≡ b → cond (not (eqb mode 0)) 1 0 ≡ length (shown k mode)
-unfolding shown
-one_shown k mode true q = rw q refl
-one_shown k mode false q = rw q refl
-
-shown_length :
-    (run : Run) (location : ℕ) (l : List ℕ)
-    → count_by (λ k. not (eqb (get_or (row k run.modes) location 0) 0)) l ≡ length (joined (shown_at run location) l)
+joined_more :
+    (w : ℕ → List ℕ) (l : List ℕ) (i : ℕ) → i < length l → joined w (take (suc i) l) ≡ joined w (take i l) ++ w (get_or l i 0)
 unfolding joined
-shown_length run location [] = refl
-shown_length run location (k ∷ l) =
-    let mode = get_or (row k run.modes) location 0 in
-    let rest = count_by (λ k. not (eqb (get_or (row k run.modes) location 0) 0)) l in
-    sum_by-cons (λ k. cond (not (eqb (get_or (row k run.modes) location 0) 0)) 1 0) k l
-    ∙ ap (λ n. n + rest) (one_shown k mode (eqb mode 0) refl)
-    ∙ ap (λ n. length (shown k mode) + n) (shown_length run location l)
-    ∙ sym (length-append (shown k mode) (joined (shown_at run location) l))
+joined_more w [] i h = absurd (omega arith)
+joined_more w (k ∷ l) zero h = append-nil (w k)
+joined_more w (k ∷ l) (suc i) h = ap (λ x. w k ++ x) (joined_more w l i (omega arith)) ∙ sym (append_assoc (w k) (joined w (take i l)) (w (get_or l i 0)))
 
-pub in_queue : (left : ℕ) (order : List ℕ) → length order ≡ 128 → take (min left 128) order ≡ take left order
-in_queue left order whole = ap (λ k. take (min left k) order) (sym whole) ∙ take_min left order
+-- The places put so far are what the queue shows of the first tasks of the order.
+module _ (run : Run) (location : ℕ) (order places : List ℕ) (count i mode : ℕ) (inside : i < length order)
+    (here : mode ≡ get_or (row (get_or order i 0) run.modes) location 0)
+    (held : take count places ≡ joined (shown_at run location) (take i order))
+  where
+    one_more : (l : List ℕ) → shown (get_or order i 0) mode ≡ l → joined (shown_at run location) (take (i + 1) order) ≡ take count places ++ l
+    one_more l q =
+        ap (λ k. joined (shown_at run location) (take k order)) (add-one i) ∙ joined_more (shown_at run location) order i inside
+        ∙ ap (λ x. joined (shown_at run location) (take i order) ++ x) (sym (ap (shown (get_or order i 0)) here) ∙ q)
+        ∙ ap (λ x. x ++ l) (sym held)
 
-pub count_shown :
-    (run : Run) (location left : ℕ) → length run.order ≡ 128 → left ≡ min run.left 128
-    → count_by (λ k. not (eqb (get_or (row k run.modes) location 0) 0)) (take left run.order) ≡ length (all_shown run location)
-count_shown run location left whole q =
-    shown_length run location (take left run.order)
-    ∙ ap (λ l. length (joined (shown_at run location) l)) (ap (λ k. take k run.order) q ∙ in_queue run.left run.order whole)
+    pub passed_over : shown (get_or order i 0) mode ≡ [] → take count places ≡ joined (shown_at run location) (take (i + 1) order)
+    passed_over q = sym (one_more [] q ∙ append-nil (take count places))
+
+    pub place_put :
+        (place : ℕ) → shown (get_or order i 0) mode ≡ place ∷ [] → count < length places
+        → take (count + 1) (set places count place) ≡ joined (shown_at run location) (take (i + 1) order)
+    place_put place q room = take_more_set places count place room ∙ sym (one_more (place ∷ []) q)
 
 -- the model's places are those of the code
 module _ (r : Semantics.Run) (a : ℕ) (mode : ℕ → ℕ) (same : (k : ℕ) → mode k ≡ mode_of (task_of r k) a) where
@@ -101,7 +87,7 @@ pub queue_shown :
     → queue_places (model run) a ≡ all_shown run a
 unfolding queue_places queue parts_model
 queue_shown run a r m =
-    places_shown (model run) a (λ k. get_or (row k run.modes) a 0) (λ k. mode_is run k a r m) (take run.left run.order)
+    places_shown (model run) a (λ k. get_or (row k run.modes) a 0) (λ k. mode_is run k a r m) (unended run.order)
 
 -- The three answers of queue.
 module _ (run : Run) (a : ℕ) (out : List ℕ) where
@@ -123,17 +109,15 @@ module _ (run : Run) (a : ℕ) (out : List ℕ) where
         record { answer = rw (t, p, q) refl; places = rw (t, p, q) refl }
 
     pub queue_put :
-        (new : List ℕ) (n : ℕ) → n ≡ length (all_shown run a) → length (all_shown run a) ≤ length out → new ≡ sets out 0 (all_shown run a)
-        → QueuedAs (queue_asked (context_of run) (model run) a (length out)) out new (Ok n)
+        (new places : List ℕ) → places ≡ all_shown run a → length places ≤ length out
+        → new ≡ places ++ drop (length places) out
+        → QueuedAs (queue_asked (context_of run) (model run) a (length out)) out new (Ok (length places))
     unfolding queue_asked list_of queued queue_answer queue_out
-    queue_put new n k h e =
+    queue_put new places k h e =
         let t = lt-ltb a run.tables.locations inside in
         let p = queue_shown run a r m in
-        let q = le-leb (length (all_shown run a)) (length out) h in
-        let put : new ≡ all_shown run a ++ drop (length (all_shown run a)) out =
-        e ∙ sets-eq (all_shown run a) out 0 (omega (arith, zero-add (length (all_shown run a))))
-        ∙ ap (λ x. all_shown run a ++ drop x out) (zero-add (length (all_shown run a))) in
-        record { answer = rw (t, p, q) (ap Listed.gives k); places = rw (t, p, q) put }
+        let q = le-leb (length (all_shown run a)) (length out) (omega (arith, ap length k)) in
+        record { answer = rw (t, p, q) (ap (λ l. Listed.gives (length l)) k); places = rw (t, p, q) (e ∙ ap (λ l. l ++ drop (length l) out) k) }
 
 -- The two answers of record.
 pub record_refused : (run : Run) (n : ℕ) → 127 < n → record_asked (model run) n ≡ denies 9
@@ -159,21 +143,21 @@ module _ (run : Run) (n : ℕ) (gs : List Access) where
   unfolding search_asked
   search_beyond h = sym (rw (le-ltb n 128 (omega arith)) refl)
 
-  module _ (below : n < 128) (p : Option ℕ) (found : p ≡ place_of n (take run.left run.order)) where
+  module _ (below : n < 128) (p : Option ℕ) (found : p ≡ place_of n (unended run.order)) where
     pub search_absent : p ≡ None → denies 10 ≡ search_asked (model run) n gs
     unfolding search_asked parts_model
     search_absent q =
-        let none = unplaced n (take run.left run.order) (sym found ∙ q) in
+        let none = unplaced n (unended run.order) (sym found ∙ q) in
         sym (rw (lt-ltb n 128 below, none) refl)
 
     pub search_given :
         (at : ℕ) → p ≡ Some at → length run.records ≡ 128 → length run.modes ≡ 8192 → (s : Searched)
-        → s ≡ searched_ahead run.modes (take at run.order) gs → gives (found_of s) ≡ search_asked (model run) n gs
+        → s ≡ searched_ahead run.modes (take at run.order.places) gs → gives (found_of s) ≡ search_asked (model run) n gs
     unfolding search_asked parts_model
     search_given at q r m s e =
-        let there = placed n (take run.left run.order) at (sym found ∙ q) in
-        let ahead_of_lem = sym there.before ∙ take-take at run.left run.order (omega (arith, there.within, length-take run.left run.order)) in
+        let there = placed n (unended run.order) at (sym found ∙ q) in
+        let ahead_of_lem = sym there.before ∙ take-take at run.order.left run.order.places (omega (arith, there.within, length-take run.order.left run.order.places)) in
         rw (lt-ltb n 128 below, there.listed)
         (ap gives
         (ap found_of (e ∙ ap (λ l. searched_ahead run.modes l gs) (sym ahead_of_lem))
-        ∙ search_by (model run) n run.modes (λ k a. mode_is run k a r m) gs (among_in n (take run.left run.order) there.listed)))
+        ∙ search_by (model run) n run.modes (λ k a. mode_is run k a r m) gs (among_in n (unended run.order) there.listed)))

@@ -8,6 +8,14 @@ use Rattle.std.proofs.Math.Nat.{min_comm}
 use Rattle.semantics.specs.Run.{Context}
 use Rattle.semantics.specs.Run as Semantics
 use Rattle.semantics.specs.Call.{after_all}
+use Rattle.std.specs.Prelude.{Result}
+use Rattle.semantics.specs.declared.CallRefusal.{CallRefusal}
+use Rattle.semantics.specs.Plan.{Action}
+use Rattle.semantics.specs.Call.{decide}
+use Rattle.semantics.specs.Answers.{answer_number, outcome_number}
+use Rattle.plans.specs.Calls.{call_of}
+use Rattle.runtime.proofs.CallLaws.{call_made}
+use Rattle.lent.specs.Handed.{CalledIn}
 use Rattle.runtime.specs.declared.Run.{Run}
 use Rattle.runtime.specs.View.{model, context_of, SoundRun}
 use Rattle.runtime.specs.Calls.{calls_of_kind, CallsMade}
@@ -48,6 +56,16 @@ module _ (l : List ℕ) (two : length l ≡ 2) (kind n : ℕ) (first : get_or l 
   pub pair_line : (x : ℕ) (c : Context) (m : Semantics.Run) → x ≡ line c m kind n → x ∷ [] ≡ lines c m l
   unfolding lines
   pair_line x c m e = ap (λ y. y ∷ []) e ∙ sym (ap (lines c m) bytes_are)
+
+  -- what a call of this kind makes, and its line
+  pub pair_called :
+      (a : Action) → calls_of_kind kind n ≡ call_of a n ∷ [] → ((c : Context) (m : Semantics.Run) → line c m kind n ≡ outcome_number (decide c m (call_of a n)))
+      → (from to : Run) (answer : Result Unit CallRefusal) → CalledIn a from n answer to → (x : ℕ) → x ≡ answer_number answer
+      → CallsMade (calls_in l) from to × (SoundRun from → x ∷ [] ≡ lines (context_of from) (model from) l)
+  pair_called a is says from to answer h x e = (
+    pair_made from to (subst (λ cs. CallsMade cs from to) (sym is) (call_made a from n answer to h)),
+    λ s. pair_line x (context_of from) (model from) (e ∙ h.answer s ∙ sym (says (context_of from) (model from))),
+  )
 
   -- a call that is none of the three
   module _ (other : (kind ≡ 0 → ⊥) × (kind ≡ 1 → ⊥) × (kind ≡ 2 → ⊥)) where

@@ -4,11 +4,10 @@
 
 ghost use Rattle.std.specs.Prelude.{◌≤◌, ◌<◌, ◌≡◌, ◌∷◌, [], length};
 ghost use Rattle.semantics.specs.Plan.{start, step, «end»};
-ghost use Rattle.semantics.specs.Answers.{answer_number};
 ghost use Rattle.runtime.specs.View.{model, context_of, SoundRun};
 ghost use Rattle.runtime.specs.Calls.{CallsMade};
 ghost use Rattle.lent.specs.Handed.{CalledIn};
-ghost use Rattle.lent.specs.Lines.{calls_in, lines};
+ghost use Rattle.lent.specs.Lines.{calls_in, line_number, line_refusal_number, lines};
 ghost use Rattle.lent.specs.Pieces.{LentOf};
 
 use runtime::{Called, Run};
@@ -60,45 +59,57 @@ pub fn end_in(run: &mut Run, task: u32) -> Result<(), CallRefusal>
     called_in(run, |run| run.end(task))
 }
 
-// "0 or the refusal"
-fn number_of(answer: Result<(), CallRefusal>) -> u8
-    ensures { result ≡ answer_number answer }
-{
-    match answer {
-        Ok(()) => 0,
-        Err(refusal) => u8::from(refusal),
+// Why a line of the input tells a refusal.
+#[derive(Clone, Copy, Debug, PartialEq, Eq)]
+enum LineRefusal {
+    // 18: another kind, or half a call.
+    NoCall,
+    // The call is refused.
+    Call(CallRefusal),
+}
+
+// 18, or the number of the call's refusal.
+impl From<LineRefusal> for u8 {
+    ghost from_gives = { λ k n. n ≡ line_refusal_number k };
+
+    fn from(refusal: LineRefusal) -> u8 {
+        match refusal {
+            LineRefusal::NoCall => 18,
+            LineRefusal::Call(k) => u8::from(k),
+        }
     }
 }
 
-// Makes the call of these two bytes, and gives its number: 0 start, 1 step, 2 end, then the task; 18 for another kind, or for
-// half a call.
-fn line_of(run: &mut Run, call: &[u8]) -> u8
+// Makes the call of these two bytes: 0 start, 1 step, 2 end, then the task.
+// Kept: a match over the byte of the kind: the input hands bytes, and any byte may come.
+fn line_of(run: &mut Run, call: &[u8]) -> Result<(), LineRefusal>
     requires some { 0 < length call.now }
     requires one { length call.now ≤ 2 }
     ensures made { CallsMade (calls_in call.now) run.old run.new }
-    ensures line { SoundRun run.old → result ∷ [] ≡ lines (context_of run.old) (model run.old) call.now }
+    ensures line { SoundRun run.old → line_number result ∷ [] ≡ lines (context_of run.old) (model run.old) call.now }
 {
     let [kind, task] = *call else {
-        return 18;
+        return Err(LineRefusal::NoCall);
     };
     let task = u32::from(task);
-    match kind {
-        0 => number_of(start_in(run, task)),
-        1 => number_of(step_in(run, task)),
-        2 => number_of(end_in(run, task)),
-        _ => 18,
-    }
+    let answer = match kind {
+        0 => start_in(run, task),
+        1 => step_in(run, task),
+        2 => end_in(run, task),
+        _ => return Err(LineRefusal::NoCall),
+    };
+    answer.map_err(LineRefusal::Call)
 }
 
 // Makes the calls of the first PIECE bytes of an input on a run.
-pub fn lend(run: Run, input: &[u8]) -> Lent
+pub fn lend(mut run: Run, input: &[u8]) -> Lent
     ensures { LentOf input.now run result }
 {
     let piece = &input[..input.len().min(PIECE)];
-    let mut run = run;
     let mut answers = [0; CALLS];
+    // Kept: an index: with a zip of `iter_mut` the proof did not close, since nothing is known of what is written.
     for (turn, call) in piece.chunks(2).enumerate() {
-        answers[turn] = line_of(&mut run, call);
+        answers[turn] = line_of(&mut run, call).err().map_or(0, u8::from);
     }
     Lent {
         run,

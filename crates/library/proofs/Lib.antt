@@ -1,3 +1,5 @@
--- Laws of a library's numbers, and of a table's.
+-- Laws of a library's numbers, of a table's, and of what is asked of a list with them.
+pub mod MapLaws
 pub mod LibraryLaws
 pub mod TableLaws
+pub mod AskedLaws

@@ -5,9 +5,9 @@ use Rattle.std.specs.Int.{w32, from_le_bytes, to_le_bytes}
 use Rattle.std.specs.Simd.{first_chunks}
 use borrow.Rule.Slice.PartMut.{put_mid}
 use native.Mathlib.Nat.{div-div-eq-div-mul, mod-eq_of_lt}
-use Rattle.std.proofs.lemmas.List.{take_at, drop_at, drop-drop, take_more}
+use Rattle.std.proofs.lemmas.List.{take_at, drop_at, drop-drop, take_more, length-map, map-append}
 use lib.ListN.{length-append}
-use lib.Seq.{take_all, length-take-le}
+use lib.Seq.{length-take-le}
 use borrow.Author.Tests.{eq-eqb, ne_eqb, le-leb, lt-leb, leb-true, leb-false}
 use Rattle.library.specs.declared.Numbers.{Numbers}
 use Rattle.library.specs.Library.{number_of, numbers_of, number_bytes, bytes_of, memory_of, fitting, Read, at_front, Put}
@@ -160,14 +160,15 @@ module _ (bytes : List ℕ) (r : Numbers) (whole : length r.values ≡ 64) where
   read_none none e = record { whole = whole; count = omega arith; values = ap (λ k. take k r.values) none ∙ sym e }
 
   pub read_all :
-      (fours : List (List ℕ)) → fours ≡ first_chunks 4 (length bytes / 4) bytes → length fours ≡ length bytes / 4 → length bytes % 4 ≡ 0
-      → length fours ≤ 64 → r.count ≡ length fours → take r.count r.values ≡ map (from_le_bytes w32) (take r.count fours) → Read bytes r
-  read_all fours chunks count even few all e =
+      (fours put rest : List (List ℕ)) → fours ≡ first_chunks 4 (length bytes / 4) bytes → length fours ≡ length bytes / 4 → length bytes % 4 ≡ 0
+      → length fours ≤ 64 → r.count ≡ length fours → put ≡ fours → r.values ≡ map (from_le_bytes w32) (put ++ rest) → Read bytes r
+  read_all fours put rest chunks count even few all p e =
       record {
         whole = whole;
         count = omega arith;
         values =
-            e ∙ ap (λ k. map (from_le_bytes w32) (take k fours)) all ∙ ap (map (from_le_bytes w32)) (take_all (length fours) fours (omega arith))
+            ap (take r.count) (e ∙ ap (λ l. map (from_le_bytes w32) (l ++ rest)) p ∙ map-append (from_le_bytes w32) fours rest)
+            ∙ take_at (map (from_le_bytes w32) fours) (map (from_le_bytes w32) rest) r.count (length-map fours (from_le_bytes w32) ∙ sym all)
             ∙ ap (map (from_le_bytes w32)) chunks ∙ sym (numbers_are bytes)
             ∙ sym (fitting_short bytes (omega arith) ∙ memory_whole bytes even);
       }

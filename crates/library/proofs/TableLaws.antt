@@ -1,9 +1,9 @@
 -- Laws of a table's numbers. Assumes nothing.
-use Rattle.std.proofs.Common.{ℕ, suc, ◌+◌, ◌*◌, ◌/◌, ◌%◌, ◌≡◌, refl, sym, ap, ◌∙◌, List, [], ◌∷◌, arith, map, length, take}
+use Rattle.std.proofs.Common.{ℕ, suc, ◌+◌, ◌*◌, ◌/◌, ◌%◌, ◌≡◌, refl, sym, ap, ◌∙◌, List, [], ◌∷◌, arith, map, length}
 use Rattle.std.specs.Prelude.{Some, None}
 use Rattle.std.specs.Int.{w16, from_le_bytes}
 use Rattle.std.specs.Simd.{first_chunks}
-use lib.Seq.{take_all}
+use Rattle.std.proofs.lemmas.List.{length-map}
 use borrow.Author.Tests.{eq-eqb, ne_eqb}
 use Rattle.library.specs.Table.{pair_of, pairs_of, table_of, ReadTable}
 
@@ -42,12 +42,10 @@ module _ (bytes : List ℕ) where
   read_none h = record { whole = tt; values = sym (table_none bytes h) }
 
   pub read_all :
-      (values : List ℕ) (pairs : List (List ℕ)) → length values ≡ 15 → pairs ≡ first_chunks 2 (length bytes / 2) bytes → length pairs ≡ length bytes / 2
-      → length bytes % 2 ≡ 0 → length pairs ≡ 15 → take 15 values ≡ map (from_le_bytes w16) (take 15 pairs) → ReadTable bytes (Some values)
-  read_all values pairs whole chunks count even all e =
+      (values : List ℕ) (pairs : List (List ℕ)) → pairs ≡ first_chunks 2 (length bytes / 2) bytes → length pairs ≡ length bytes / 2
+      → length bytes % 2 ≡ 0 → length pairs ≡ 15 → values ≡ map (from_le_bytes w16) pairs → ReadTable bytes (Some values)
+  read_all values pairs chunks count even long e =
       record {
-        whole = whole;
-        values =
-            sym (take_all 15 values (omega arith)) ∙ e ∙ ap (map (from_le_bytes w16)) (take_all 15 pairs (omega arith))
-            ∙ ap (map (from_le_bytes w16)) chunks ∙ sym (pairs_are bytes) ∙ sym (table_whole bytes (omega arith));
+        whole = ap length e ∙ length-map pairs (from_le_bytes w16) ∙ long;
+        values = e ∙ ap (map (from_le_bytes w16)) chunks ∙ sym (pairs_are bytes) ∙ sym (table_whole bytes (omega arith));
       }

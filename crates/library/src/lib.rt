@@ -5,6 +5,7 @@
 ghost use Rattle.std.specs.Prelude.{◌≤◌, ◌≡◌, take};
 
 // A library's numbers (document 01: entries): the first `count` values.
+// Kept: an array and a count, since there is no heap. Callers see them as a slice.
 #[derive(Clone, Copy)]
 pub struct Numbers {
     pub values: [u32; 64],
@@ -18,6 +19,13 @@ impl Numbers {
     {
         &self.values[..self.count]
     }
+}
+
+// The entries of a memory: its first numbers, one for each location.
+pub fn entries(memory: &[u32; 64], locations: u8) -> &[u32]
+    ensures { result.now ≡ take locations memory.now }
+{
+    &memory[..usize::from(locations).min(64)]
 }
 
 mod reading;

@@ -1,6 +1,4 @@
 // Numbers read from bytes.
-// Kept: two loops of one line. One over both would take the conversion as a closure, and say by what the closure gives what each
-// place holds.
 ghost use Rattle.library.specs.Library.{Read};
 ghost use Rattle.library.specs.Table.{ReadTable};
 
@@ -10,17 +8,18 @@ use crate::Numbers;
 pub fn read_numbers(bytes: &[u8]) -> Numbers
     ensures { Read bytes.now result }
 {
-    let mut values = [0u32; 64];
-    let (fours, rest) = bytes.as_chunks::<4>();
-    if values.len() < fours.len() || !rest.is_empty() {
-        return Numbers { values, count: 0 };
+    let (read, rest) = bytes.as_chunks::<4>();
+    let mut fours = [[0; 4]; 64];
+    if fours.len() < read.len() || !rest.is_empty() {
+        return Numbers {
+            values: [0; 64],
+            count: 0,
+        };
     }
-    for (i, four) in fours.iter().enumerate() {
-        values[i] = u32::from_le_bytes(*four);
-    }
+    fours[..read.len()].copy_from_slice(read);
     Numbers {
-        values,
-        count: fours.len(),
+        values: fours.map(u32::from_le_bytes),
+        count: read.len(),
     }
 }
 
@@ -28,13 +27,9 @@ pub fn read_numbers(bytes: &[u8]) -> Numbers
 pub fn read_table(bytes: &[u8]) -> Option<[u16; 15]>
     ensures { ReadTable bytes.now result }
 {
-    let (pairs, rest) = bytes.as_chunks::<2>();
-    let mut values = [0u16; 15];
-    if pairs.len() != values.len() || !rest.is_empty() {
+    let (pairs, []) = bytes.as_chunks::<2>() else {
         return None;
-    }
-    for (i, pair) in pairs.iter().enumerate() {
-        values[i] = u16::from_le_bytes(*pair);
-    }
-    Some(values)
+    };
+    let pairs = <[[u8; 2]; 15]>::try_from(pairs).ok()?;
+    Some(pairs.map(u16::from_le_bytes))
 }

@@ -1,2 +1,2 @@
--- Laws of what the tables hold, for this crate's proofs and for the layers above.
-pub mod AccessLaws
+-- Laws of the tables' rows.
+pub mod RowLaws

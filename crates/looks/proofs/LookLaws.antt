@@ -12,6 +12,7 @@ use Rattle.std.specs.Prelude.{Result, Ok, Err, Option, Some, None}
 use Rattle.std.specs.Option.{ok_or}
 use Rattle.tasklist.specs.TaskList.{body_of}
 use Rattle.tasklist.specs.Tables.{list_of, blank_tables}
+use Rattle.arrays.specs.declared.order.Order.{Order}
 use Rattle.semantics.specs.declared.CallRefusal.{CallRefusal}
 use Rattle.semantics.specs.declared.CallRefusal.TheVariants.{Absent, Started, Waiting, Finished, Unfinished}
 use Rattle.semantics.specs.declared.Record.{Record}
@@ -21,13 +22,12 @@ use Rattle.semantics.specs.Plan.{start, «end», at_end, needs_from, plan_start,
 use Rattle.semantics.specs.Call.{refuse, accept, admit, settle}
 use Rattle.semantics.proofs.Search.{start_asks}
 use Rattle.arrays.specs.Rows.{row}
-use Rattle.arrays.specs.Places.{place_of}
-use Rattle.ahead.specs.Ahead.{hold_ahead}
+use Rattle.arrays.specs.Places.{unended, place_of}
+use Rattle.ahead.specs.Ahead.{hold_ahead, past}
 use Rattle.arrays.proofs.SpliceLaws.{placed, unplaced}
 use Rattle.plans.specs.View.{Parts, model, context_of, SoundRun, Placed, record_of}
 use Rattle.plans.specs.Calls.{decided}
-use Rattle.plans.specs.Steps.{past}
-use Rattle.looks.specs.Looks.{start_effect, end_effect, finished, BodySize, ordered, with_parts, LocatedIn, StartIn, EndIn, ReadyIn}
+use Rattle.looks.specs.Looks.{start_effect, end_effect, finished, BodySize, ordered, with_parts, LocatedIn, StartedIn, StartIn, EndIn, ReadyIn}
 use Rattle.plans.proofs.DecideLaws.{not_listed, by_plan, own_task, looked_to, looks_ahead, own_state}
 use Rattle.plans.proofs.StepLaws.{step_waiting, step_finished}
 
@@ -37,22 +37,22 @@ some_parts = record { tables = blank_tables; memory = []; records = []; modes = 
 
 -- The order holds no such task, or holds it at this place.
 pub located :
-    (order : List ℕ) (left n : ℕ) → n < 128 → (p : Option ℕ) → (length order ≡ 128 → p ≡ place_of n (take left order))
-    → LocatedIn order left n (ok_or p Absent)
+    (order : Order) (n : ℕ) → n < 128 → (p : Option ℕ) → p ≡ place_of n (unended order)
+    → LocatedIn order n (ok_or p Absent)
 unfolding model
-located order left n below None found =
-    λ run s a. not_listed (ordered order left run) n below a (unplaced n (take left order) (sym (found s.order)))
-located order left n below (Some place) found =
+located order n below None found =
+    λ run s a. not_listed (ordered order.places order.left run) n below a (unplaced n (unended order) (sym found))
+located order n below (Some place) found =
+    let there = placed n (unended order) place (sym found) in
+    let inside : place < order.left = omega (arith, there.within, length-take order.left order.places) in
     λ run. (
       below,
       λ s.
-          let there = placed n (take left order) place (sym (found s.order)) in
-          let inside : place < left = omega (arith, there.within, length-take left order) in
           record {
             within = inside;
             here = there.there;
             listed = there.listed;
-            ahead_of = sym there.before ∙ take-take place left order (omega arith);
+            ahead_of = sym there.before ∙ take-take place order.left order.places (omega arith);
           },
     )
 
@@ -118,72 +118,72 @@ module _ (run : Parts) (n : ℕ) (below : n < 128) (place : ℕ) (p : Placed run
     end_unfinished h = by_plan run n below p.listed «end» ∙ rw (in_state 2 going, h) refl
 
 -- The tests of a start, an end and a step, in the order of their refusals, where the order holds the task at this place.
-module _ (order : List ℕ) (left n place : ℕ) (own : Record) (at : LocatedIn order left n (Ok place)) where
+module _ (order : Order) (n place : ℕ) (own : Record) (at : LocatedIn order n (Ok place)) where
   below : n < 128
   below = (at some_parts).0
+
+  -- a run with this order
+  abbrev with_order : Parts → Parts
+  with_order run = ordered order.places order.left run
 
   module _ (modes : List ℕ) where
     -- a run with these parts
     abbrev part : Parts → Parts
-    part run = with_parts run.tables run.memory modes order left run
+    part run = with_parts run.tables run.memory modes order.places order.left run
 
     there : (run : Parts) → SoundRun (part run) → Placed (part run) n place
     there run = (at (part run)).1
 
-    pub start_again : (own.state ≡ 1 → ⊥) → StartIn order modes left own n (Err Started)
+    pub start_again : (own.state ≡ 1 → ⊥) → StartIn order modes own n (Err Started)
     start_again h =
         λ run same s. start_started (part run) n below place (there run s) s (λ q. h (ap (λ t. t.state) (sym same) ∙ q))
 
-    module _ (ready : own.state ≡ 1) (gs : List Access) (asked : length modes ≡ 8192 → n < 128 → gs ≡ needs_from 0 (row n modes))
-        (r : Result Unit CallRefusal) (looked : length order ≡ 128 → length modes ≡ 8192 → r ≡ past (hold_ahead modes (take place order) gs))
+    module _ (ready : own.state ≡ 1) (gs : List Access) (asked : n < 128 → gs ≡ needs_from 0 (row n modes))
+        (r : Result Unit CallRefusal) (looked : r ≡ past (hold_ahead modes (take place order.places) gs))
       where
         looked_as :
             (x : Result Unit CallRefusal) → r ≡ x → (run : Parts) → record_of run n ≡ own → SoundRun (part run)
             → decided (part run) start n ≡ looked_to x (start_effect (part run) n)
         looked_as x q run same s =
-            start_looked (part run) n below place (there run s) s (ap (λ t. t.state) same ∙ ready) gs (asked s.modes below) x
-            (sym q ∙ looked s.order s.modes)
+            start_looked (part run) n below place (there run s) s (ap (λ t. t.state) same ∙ ready) gs (asked below) x (sym q ∙ looked)
 
-        pub start_free : r ≡ Ok tt → StartIn order modes left own n (Ok place)
+        pub start_free : r ≡ Ok tt → StartIn order modes own n (Ok place)
         start_free q = λ run same. (below, λ s. (there run s, looked_as (Ok tt) q run same s))
 
-        pub start_held : (k : CallRefusal) → r ≡ Err k → StartIn order modes left own n (Err k)
+        pub start_held : (k : CallRefusal) → r ≡ Err k → StartIn order modes own n (Err k)
         start_held k = looked_as (Err k)
 
-  module _ (size : ℕ) where
-    pub end_again : (own.state ≡ 2 → ⊥) → EndIn order left own size n (Err Waiting)
-    end_again h =
+  pub not_started : (own.state ≡ 2 → ⊥) → StartedIn order own n (Err Waiting)
+  not_started h =
+      λ run same s.
+      let other = λ (q : (record_of run n).state ≡ 2). h (ap (λ t. t.state) (sym same) ∙ q) in (
+        step_waiting (with_order run) n below s place ((at run).1 s) other,
+        end_waiting (with_order run) n below place ((at run).1 s) s other,
+      )
+
+  module _ (size : ℕ) (going : own.state ≡ 2) where
+    pub end_finished : finished size own ≡ true → EndIn order own size n (Ok place)
+    end_finished h =
+        λ run same fits. (
+          below,
+          λ s. (
+            (at run).1 s,
+            end_free (with_order run) n below place ((at run).1 s) s (ap (λ t. t.state) same ∙ going)
+                (sym (ends (with_order run) n size own below same fits s) ∙ h),
+          ),
+        )
+
+    pub end_early : finished size own ≡ false → EndIn order own size n (Err Unfinished)
+    end_early h =
         λ run same fits s.
-        end_waiting (ordered order left run) n below place ((at run).1 s) s (λ q. h (ap (λ t. t.state) (sym same) ∙ q))
+        end_unfinished (with_order run) n below place ((at run).1 s) s (ap (λ t. t.state) same ∙ going)
+        (sym (ends (with_order run) n size own below same fits s) ∙ h)
 
-    pub ready_again : (own.state ≡ 2 → ⊥) → ReadyIn order left own size n (Err Waiting)
-    ready_again h =
+    pub ready_finished : finished size own ≡ true → ReadyIn order own size n (Err Finished)
+    ready_finished h =
         λ run same fits s.
-        step_waiting (ordered order left run) n below s place ((at run).1 s) (λ q. h (ap (λ t. t.state) (sym same) ∙ q))
+        step_finished (with_order run) n below s place ((at run).1 s) (ap (λ t. t.state) same ∙ going) (finished size own)
+        (ends (with_order run) n size own below same fits s) h
 
-    module _ (going : own.state ≡ 2) where
-      pub end_finished : finished size own ≡ true → EndIn order left own size n (Ok place)
-      end_finished h =
-          λ run same fits. (
-            below,
-            λ s. (
-              (at run).1 s,
-              end_free (ordered order left run) n below place ((at run).1 s) s (ap (λ t. t.state) same ∙ going)
-                  (sym (ends (ordered order left run) n size own below same fits s) ∙ h),
-            ),
-          )
-
-      pub end_early : finished size own ≡ false → EndIn order left own size n (Err Unfinished)
-      end_early h =
-          λ run same fits s.
-          end_unfinished (ordered order left run) n below place ((at run).1 s) s (ap (λ t. t.state) same ∙ going)
-          (sym (ends (ordered order left run) n size own below same fits s) ∙ h)
-
-      pub ready_finished : finished size own ≡ true → ReadyIn order left own size n (Err Finished)
-      ready_finished h =
-          λ run same fits s.
-          step_finished (ordered order left run) n below s place ((at run).1 s) (ap (λ t. t.state) same ∙ going) (finished size own)
-          (ends (ordered order left run) n size own below same fits s) h
-
-      pub ready_now : finished size own ≡ false → ReadyIn order left own size n (Ok place)
-      ready_now h = (below, going, h, λ run. (at run).1)
+    pub ready_now : finished size own ≡ false → ReadyIn order own size n (Ok place)
+    ready_now h = (below, going, h, λ run. (at run).1)

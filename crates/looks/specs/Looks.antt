@@ -3,6 +3,7 @@ use Rattle.std.specs.Prelude.{ℕ, ◌<◌, ◌≡◌, List, Bool, false, not, �
 use Rattle.tasklist.specs.declared.Tables.{Tables}
 use Rattle.tasklist.specs.TaskList.{body_of}
 use Rattle.tasklist.specs.Tables.{list_of}
+use Rattle.arrays.specs.declared.order.Order.{Order}
 use Rattle.semantics.specs.declared.Record.{Record}
 use Rattle.semantics.specs.declared.CallRefusal.{CallRefusal}
 use Rattle.semantics.specs.Run.{task_of, start_weight, end_weight}
@@ -47,27 +48,36 @@ abbrev pub end_effect : Parts → ℕ → Effect
 end_effect run n = leaving (end_weight (context_of run)) (task_of (model run) n)
 
 -- the task's place by the order alone
-abbrev pub LocatedIn : List ℕ → ℕ → ℕ → Result ℕ CallRefusal → Type 0
-LocatedIn order left n r = (run : Parts) → LocatedAs (ordered order left run) n r
+abbrev pub LocatedIn : Order → ℕ → Result ℕ CallRefusal → Type 0
+LocatedIn order n r = (run : Parts) → LocatedAs (ordered order.places order.left run) n r
+
+-- the place of a started task, by the order and the task's own record: a step and an end have the same refusals before
+abbrev pub StartedIn : Order → Record → ℕ → Result ℕ CallRefusal → Type 0
+StartedIn order own n (Err k) =
+    (run : Parts) → record_of run n ≡ own → SoundRun (ordered order.places order.left run)
+    → (decided (ordered order.places order.left run) step n ≡ refuse (refusal_number k))
+    × (decided (ordered order.places order.left run) «end» n ≡ refuse (refusal_number k))
+StartedIn order own n (Ok place) = (own.state ≡ 2) × LocatedIn order n (Ok place)
 
 -- what comes of a start, by the order, the modes and the task's own record
-abbrev pub StartIn : List ℕ → List ℕ → ℕ → Record → ℕ → Result ℕ CallRefusal → Type 0
-StartIn order modes left own n r =
+abbrev pub StartIn : Order → List ℕ → Record → ℕ → Result ℕ CallRefusal → Type 0
+StartIn order modes own n r =
     (run : Parts) → record_of run n ≡ own
-    → PlannedAs start (start_effect (with_parts run.tables run.memory modes order left run) n)
-    (with_parts run.tables run.memory modes order left run) n r
+    → PlannedAs start (start_effect (with_parts run.tables run.memory modes order.places order.left run) n)
+    (with_parts run.tables run.memory modes order.places order.left run) n r
 
 -- what comes of an end, by the order, the task's own record and the size of its body
-abbrev pub EndIn : List ℕ → ℕ → Record → ℕ → ℕ → Result ℕ CallRefusal → Type 0
-EndIn order left own size n r =
+abbrev pub EndIn : Order → Record → ℕ → ℕ → Result ℕ CallRefusal → Type 0
+EndIn order own size n r =
     (run : Parts) → record_of run n ≡ own → BodySize size own run
-    → PlannedAs «end» (end_effect (ordered order left run) n) (ordered order left run) n r
+    → PlannedAs «end» (end_effect (ordered order.places order.left run) n) (ordered order.places order.left run) n r
 
 -- what comes of a step before its instruction is looked at
-abbrev pub ReadyIn : List ℕ → ℕ → Record → ℕ → ℕ → Result ℕ CallRefusal → Type 0
-ReadyIn order left own size n (Err k) =
-    (run : Parts) → record_of run n ≡ own → BodySize size own run → SoundRun (ordered order left run)
-    → decided (ordered order left run) step n ≡ refuse (refusal_number k)
-ReadyIn order left own size n (Ok place) =
+abbrev pub ReadyIn : Order → Record → ℕ → ℕ → Result ℕ CallRefusal → Type 0
+ReadyIn order own size n (Err k) =
+    (run : Parts) → record_of run n ≡ own → BodySize size own run → SoundRun (ordered order.places order.left run)
+    → decided (ordered order.places order.left run) step n ≡ refuse (refusal_number k)
+ReadyIn order own size n (Ok place) =
     (n < 128) × (own.state ≡ 2) × (finished size own ≡ false)
-    × ((run : Parts) → SoundRun (ordered order left run) → Placed (ordered order left run) n place)
+    × ((run : Parts) → SoundRun (ordered order.places order.left run)
+    → Placed (ordered order.places order.left run) n place)

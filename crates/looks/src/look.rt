@@ -1,20 +1,32 @@
 // The looks of start, end and step, each by the order and the task's own record; that of a start at the tasks ahead too.
+// Kept: a u32 becomes a usize by `as`, since there is no `From`.
+// Kept: the order, the task's record and its number side by side. The order is a field of the run, the number is the caller's; the
+// number is looked up and the record tested, each by itself. A struct of the three would be filled for one look.
 ghost use Rattle.std.specs.Prelude.{◌≡◌};
-ghost use Rattle.looks.specs.Looks.{LocatedIn, finished, StartIn, EndIn, ReadyIn};
+ghost use Rattle.looks.specs.Looks.{LocatedIn, StartedIn, finished, StartIn, EndIn, ReadyIn};
 
-use plans::Standing;
+use arrays::Order;
 use semantics::{CallRefusal, Record};
 
 // The place of a task in the order: 9, then 10.
-// Kept: the order is an array with a count beside it, as a run holds it (fixed memory); a slice of it would ask of callers that
-// the count is at most 128.
-pub fn place_of(order: &[u8; 128], left: usize, task: u32) -> Result<usize, CallRefusal>
-    ensures { LocatedIn order.now left task result }
+pub fn place_of(order: &Order, task: u32) -> Result<usize, CallRefusal>
+    ensures { LocatedIn order.now task result }
 {
-    if 127 < task {
-        return Err(CallRefusal::Number);
+    match u8::try_from(task) {
+        Ok(number @ 0..=127) => order.position(number).ok_or(CallRefusal::Absent),
+        _ => Err(CallRefusal::Number),
     }
-    arrays::position(order, left, task as u8).ok_or(CallRefusal::Absent)
+}
+
+// The place of a started task in the order: 9, 10, then 13.
+fn started_place(order: &Order, own: Record, task: u32) -> Result<usize, CallRefusal>
+    ensures { StartedIn order.now own task result }
+{
+    let place = place_of(order, task)?;
+    if own.state != 2 {
+        return Err(CallRefusal::Waiting);
+    }
+    Ok(place)
 }
 
 // Whether a task with this record is at the end of its body, of so many instructions, or after a fault.
@@ -26,64 +38,39 @@ pub fn at_end(own: Record, size: usize) -> bool
 
 // What comes of a start: the task's place, or 9, 10, 11, 19, 20.
 pub fn start_look(
-    order: &[u8; 128],
+    order: &Order,
     modes: &[u8; 8192],
-    left: usize,
     own: Record,
     task: u32,
 ) -> Result<usize, CallRefusal>
-    ensures { StartIn order.now modes.now left own task result }
+    ensures { StartIn order.now modes.now own task result }
 {
-    let place = place_of(order, left, task)?;
+    let place = place_of(order, task)?;
     if own.state != 1 {
         return Err(CallRefusal::Started);
     }
-    let task = task as usize;
-    let standing = Standing {
-        order,
-        modes,
-        task,
-        place,
-    };
-    standing.look(ahead::wanted_of(modes, task).as_slice())?;
+    let wanted = ahead::wanted_of(modes, task as usize);
+    let found = ahead::search_ahead(order.front(place), modes, wanted.as_slice());
+    found.hold.answer()?;
     Ok(place)
 }
 
 // What comes of an end: the task's place, or 9, 10, 13, 15.
-pub fn end_look(
-    order: &[u8; 128],
-    left: usize,
-    own: Record,
-    size: usize,
-    task: u32,
-) -> Result<usize, CallRefusal>
-    ensures { EndIn order.now left own size task result }
+pub fn end_look(order: &Order, own: Record, size: usize, task: u32) -> Result<usize, CallRefusal>
+    ensures { EndIn order.now own size task result }
 {
-    let place = place_of(order, left, task)?;
-    if own.state != 2 {
-        return Err(CallRefusal::Waiting);
+    let place = started_place(order, own, task)?;
+    if !at_end(own, size) {
+        return Err(CallRefusal::Unfinished);
     }
-    if at_end(own, size) {
-        Ok(place)
-    } else {
-        Err(CallRefusal::Unfinished)
-    }
+    Ok(place)
 }
 
 // What comes before an instruction is looked at: 9, 10, 13, 14, or the task's place.
-pub fn step_look(
-    order: &[u8; 128],
-    left: usize,
-    own: Record,
-    size: usize,
-    task: u32,
-) -> Result<usize, CallRefusal>
-    ensures { ReadyIn order.now left own size task result }
+pub fn step_look(order: &Order, own: Record, size: usize, task: u32) -> Result<usize, CallRefusal>
+    ensures { ReadyIn order.now own size task result }
 {
-    let place = place_of(order, left, task)?;
-    if own.state != 2 {
-        return Err(CallRefusal::Waiting);
-    }
+    let place = started_place(order, own, task)?;
     if at_end(own, size) {
         return Err(CallRefusal::Finished);
     }

@@ -15,13 +15,12 @@ use Rattle.semantics.specs.Sound.{In}
 use Rattle.semantics.proofs.Bounds.{order_below}
 use Rattle.semantics.proofs.Search.{Asks}
 use Rattle.arrays.specs.Rows.{row}
-use Rattle.ahead.specs.Ahead.{hold_ahead}
+use Rattle.ahead.specs.Ahead.{past, hold_ahead}
 use Rattle.ahead.specs.declared.Hold.{Hold}
 use Rattle.ahead.specs.declared.Hold.TheVariants.{Free, Writer, Others}
 use Rattle.ahead.proofs.SearchLaws.{outcome_by, admit_by}
 use Rattle.plans.specs.View.{Parts, model, context_of, SoundRun, blank_record, Placed, no_record, record_of}
 use Rattle.plans.specs.Calls.{decided}
-use Rattle.plans.specs.Steps.{past}
 use Rattle.plans.proofs.ViewLaws.{task_is}
 
 -- What is decided, test by test.

@@ -1,5 +1,5 @@
 -- What each instruction comes to, in the code's terms. Assumes nothing.
-use Rattle.std.proofs.Common.{◌≡◌, ℕ, zero, suc, ◌+◌, ◌-◌, ◌*◌, ◌%◌, ◌^◌, ◌<◌, Bool, true, false, cond, ltb, ◌≢◌, List, [], ◌∷◌, length, get_or, take, sym, refl, ap, ◌∙◌, subst, inl, inr, arith, get_or-take, eq-eqb, ne_eqb, Result, Ok, Err, Option, None, Some}
+use Rattle.std.proofs.Common.{◌≡◌, ℕ, zero, suc, ◌+◌, ◌-◌, ◌*◌, ◌%◌, ◌^◌, ◌<◌, Bool, true, false, cond, ltb, ◌≢◌, List, [], ◌∷◌, get_or, take, sym, refl, ap, ◌∙◌, subst, inl, inr, arith, get_or-take, eq-eqb, ne_eqb, Result, Ok, Err}
 use native.Mathlib.Decide.{dec_lt}
 use Rattle.tasklist.specs.declared.Instruction.{Instruction}
 use Rattle.tasklist.specs.declared.Instruction.TheVariants.{Const, Add, Sub, Less, Load, Store, Skip, Spawn, Wait, Fan, Sum, Mul, Div}
@@ -21,7 +21,7 @@ use Rattle.semantics.specs.Sound.{In}
 use Rattle.semantics.proofs.SoundModes.{none_grants}
 use Rattle.semantics.proofs.Search.{Asks}
 use Rattle.arrays.specs.Rows.{row}
-use Rattle.ahead.specs.Ahead.{access, accesses_of, hold_ahead}
+use Rattle.ahead.specs.Ahead.{past, access, accesses_of, hold_ahead}
 use Rattle.ahead.specs.declared.Access as Asked
 use Rattle.records.specs.Quotients.{QuotientIs}
 use Rattle.arrays.proofs.RowLaws.{row_past}
@@ -32,10 +32,11 @@ use Rattle.grants.proofs.GrantLaws.{own_other}
 use Rattle.plans.specs.declared.Stop.{Stop}
 use Rattle.plans.specs.declared.Stop.TheVariants as Stops
 use Rattle.plans.specs.declared.StepPlan.{StepPlan}
+use Rattle.plans.specs.declared.Spawning.{Spawning}
 use Rattle.plans.specs.declared.StepPlan.TheVariants as Planned
 use Rattle.plans.specs.View.{Parts, model, context_of, SoundRun, Placed, record_of}
 use Rattle.plans.specs.Calls.{decided}
-use Rattle.plans.specs.Steps.{past, fault_at, AccessAs, AccessIn, looking, planned, settled, Plans, PlansIn}
+use Rattle.plans.specs.Steps.{fault_at, AccessAs, AccessIn, looking, planned, settled, Plans, PlansIn}
 use Rattle.plans.proofs.ViewLaws.{mode_is}
 use Rattle.plans.proofs.DecideLaws.{by_plan, own_task, looks_ahead, own_state}
 
@@ -47,17 +48,17 @@ some_fault ZeroDivisor q = omega arith
 
 -- What comes of an access.
 module _
-    (run : Parts) (n place a tested asked mode : ℕ) (look : length run.modes ≡ 8192 → mode ≡ get_or (row n run.modes) a 0)
-    (found : Option Fault) (by_mode : fault_of found ≡ access_fault mode tested)
+    (run : Parts) (n place a tested asked mode : ℕ) (look : mode ≡ get_or (row n run.modes) a 0)
+    (found : Result Unit Fault) (by_mode : fault_of found ≡ access_fault mode tested)
   where
     known : SoundRun run → fault_at run n a tested ≡ fault_of found
     known s =
-        ap (λ m. access_fault m tested) (sym (look s.modes ∙ mode_is run n a s.records s.modes)) ∙ sym by_mode
+        ap (λ m. access_fault m tested) (sym (look ∙ mode_is run n a s.records s.modes)) ∙ sym by_mode
 
-    pub access_faults : (k : Fault) → found ≡ Some k → AccessAs run n place a tested asked (Err (Stops.Fault k))
+    pub access_faults : (k : Fault) → found ≡ Err k → AccessAs run n place a tested asked (Err (Stops.Fault k))
     access_faults k q = λ s. known s ∙ ap fault_of q
 
-    module _ (none : found ≡ None) (w : List Asked.Access) (one : a < 64 → accesses_of w ≡ access a asked ∷ []) where
+    module _ (none : found ≡ Ok tt) (w : List Asked.Access) (one : a < 64 → accesses_of w ≡ access a asked ∷ []) where
       granted : SoundRun run → fault_at run n a tested ≡ 0
       granted s = known s ∙ ap fault_of none
 
@@ -81,11 +82,10 @@ module _
 
       module _
           (looked : Result Unit CallRefusal)
-          (searched : length run.order ≡ 128 → length run.modes ≡ 8192
-          → looked ≡ past (hold_ahead run.modes (take place run.order) (accesses_of w)))
+          (searched : looked ≡ past (hold_ahead run.modes (take place run.order) (accesses_of w)))
         where
           looked_is : SoundRun run → looked ≡ past (hold_ahead run.modes (take place run.order) (access a asked ∷ []))
-          looked_is s = searched s.order s.modes ∙ ap (λ gs. past (hold_ahead run.modes (take place run.order) gs)) (one (near s))
+          looked_is s = searched ∙ ap (λ gs. past (hold_ahead run.modes (take place run.order) gs)) (one (near s))
 
           pub access_free : looked ≡ Ok tt → AccessAs run n place a tested asked (Ok tt)
           access_free q =
@@ -125,6 +125,10 @@ inside run n a asked s f = sort (dec_lt a run.tables.locations)
         let bad : ◌≡◌ {A = ℕ} 1 0 =
         own_other 0 asked (λ q. omega arith) (λ q. omega arith) (λ q. omega arith) ∙ ap (λ m. access_fault m asked) (sym beyond) ∙ f in
         let z : ⊥ = omega arith in absurd z
+
+-- the tasks of a spawn or a fan
+abbrev made : ℕ → ℕ → ℕ → ℕ → Spawning
+made body footprint first children = record { body = body; footprint = footprint; first = first; children = children }
 
 -- What each instruction of a task with these registers comes to.
 module _ (order modes memory rs : List ℕ) (n place : ℕ) (below : n < 128) where
@@ -226,9 +230,9 @@ module _ (order modes memory rs : List ℕ) (n place : ℕ) (below : n < 128) wh
         (λ run m e s f w. ap (λ z. accept (storing w a z (own_of run))) (named run e s source v q))
 
   -- Wait and sum ask in the task's own mode.
-  module _ (a asked : ℕ) (mode : length modes ≡ 8192 → asked ≡ get_or (row n modes) a 0) where
+  module _ (a asked : ℕ) (mode : asked ≡ get_or (row n modes) a 0) where
     own_mode : (run : Parts) → SoundRun (it run) → asked ≡ mode_of (own_of run) a
-    own_mode run s = mode s.modes ∙ mode_is (it run) n a s.records s.modes
+    own_mode run s = mode ∙ mode_is (it run) n a s.records s.modes
 
     -- what the task's own mode allows is not nothing
     asks_some : (tested : ℕ) (run : Parts) → SoundRun (it run) → fault_at (it run) n a tested ≡ 0 → asked ≢ 0
@@ -364,19 +368,42 @@ module _ (order modes memory rs : List ℕ) (n place : ℕ) (below : n < 128) wh
       ap (λ z. accept (own w (moved (1 + z) (own_of run).registers (own_of run))))
       (ap (λ z. passed_over z b) (named run e s a l p) ∙ sym is)
 
-  pub spawn_plans : (a f v : ℕ) → v ≡ get_or rs 0 0 → PlansIn order modes memory rs n place (Spawn a f) (Ok (Planned.Make a f v 1))
+  pub spawn_plans : (a f v : ℕ) → v ≡ get_or rs 0 0 → PlansIn order modes memory rs n place (Spawn a f) (Ok (Planned.Make (made a f v 1)))
   unfolding settled plan_instruction planned
   spawn_plans a f v q =
       λ run m e s o w.
       ap (λ ts. settle (model (it run)) n (plan_make (context_of (it run)) w n (own_of run) a (children a (footprint_of (list_of run.tables) f) ts)))
       (sym (seen_alone (own_of run)) ∙ ap (λ u. seen_from 0 1 (first_register u (own_of run))) (named run e s 0 v q))
 
-  pub fan_plans : (a f k : ℕ) → PlansIn order modes memory rs n place (Fan a f k) (Ok (Planned.Make a f 0 k))
+  pub fan_plans : (a f k : ℕ) → PlansIn order modes memory rs n place (Fan a f k) (Ok (Planned.Make (made a f 0 k)))
   unfolding settled plan_instruction planned
   fan_plans a f k =
       λ run m e s o w.
       ap (λ ts. settle (model (it run)) n (plan_make (context_of (it run)) w n (own_of run) a (children a (footprint_of (list_of run.tables) f) ts)))
       (sym (seen_fan 0 k (own_of run)))
+
+-- for the plan of an instruction
+pub ruleset plans_of = (
+  const_plans,
+  add_plans,
+  sub_plans,
+  less_plans,
+  skip_plans,
+  spawn_plans,
+  fan_plans,
+  load_ends,
+  load_goes,
+  store_ends,
+  store_goes,
+  wait_ends,
+  wait_goes,
+  sum_ends,
+  sum_goes,
+  mul_faults,
+  mul_plans,
+  div_faults,
+  div_plans,
+)
 
 -- What is decided of a step.
 module _ (run : Parts) (n : ℕ) (below : n < 128) (s : SoundRun run) (place : ℕ) (p : Placed run n place) where

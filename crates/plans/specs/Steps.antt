@@ -3,8 +3,6 @@ use Rattle.std.specs.Prelude.{◌≡◌, ℕ, ◌+◌, ◌≢◌, List, [], ◌�
 use Rattle.tasklist.specs.declared.Instruction.{Instruction}
 use Rattle.tasklist.specs.TaskList.{footprint_of}
 use Rattle.tasklist.specs.Tables.{list_of}
-use Rattle.semantics.specs.declared.CallRefusal.{CallRefusal}
-use Rattle.semantics.specs.declared.CallRefusal.TheVariants.{BehindWriter, BehindOthers}
 use Rattle.semantics.specs.Run.{mode_of, task_of}
 use Rattle.semantics.specs.Access.{access_fault}
 use Rattle.semantics.specs.Effect.{Effect, own, moved, faulted, assigned, storing, adding}
@@ -13,20 +11,12 @@ use Rattle.semantics.specs.Plan.{plan_instruction, plan_make}
 use Rattle.semantics.specs.Call.{Outcome, refuse, accept, admit, settle}
 use Rattle.semantics.specs.Answers.{refusal_number, fault_number}
 use Rattle.ahead.specs.Ahead.{access}
-use Rattle.ahead.specs.declared.Hold.{Hold}
-use Rattle.ahead.specs.declared.Hold.TheVariants.{Free, Writer, Others}
 use Rattle.tables.specs.Children.{seen_from}
 use Rattle.plans.specs.declared.Stop.{Stop}
 use Rattle.plans.specs.declared.Stop.TheVariants.{Fault, Held}
 use Rattle.plans.specs.declared.StepPlan.{StepPlan}
 use Rattle.plans.specs.declared.StepPlan.TheVariants.{Assign, Pass, Store, Sum, Make}
 use Rattle.plans.specs.View.{Parts, model, context_of, SoundRun, Placed, record_of}
-
--- what a look at the tasks ahead answers: request 102's 19 behind a writer, 20 behind others
-abbrev pub past : Hold → Result Unit CallRefusal
-past Free = Ok tt
-past Writer = Err BehindWriter
-past Others = Err BehindOthers
 
 -- the fault of task n's access
 abbrev pub fault_at : Parts → ℕ → ℕ → ℕ → ℕ
@@ -60,11 +50,11 @@ planned run n w (Ok (Pass k)) =
     accept (own w (moved (1 + k) (task_of (model run) n).registers (task_of (model run) n)))
 planned run n w (Ok (Store a v)) = accept (storing w a v (task_of (model run) n))
 planned run n w (Ok (Sum a v)) = accept (adding w a v (task_of (model run) n))
-planned run n w (Ok (Make s f first k)) =
+planned run n w (Ok (Make s)) =
     let t = task_of (model run) n in
     settle (model run) n
-    (plan_make (context_of run) w n t s
-    (children s (footprint_of (list_of run.tables) f) (seen_from 0 k (first_register first t))))
+    (plan_make (context_of run) w n t s.body
+    (children s.body (footprint_of (list_of run.tables) s.footprint) (seen_from 0 s.children (first_register s.first t))))
 
 -- what an instruction of task n comes to
 unfoldable pub settled : Parts → ℕ → ℕ → Instruction → Outcome

@@ -34,31 +34,24 @@ impl From<CallRefusal> for Stop {
 #[derive(Clone, Copy, Debug, PartialEq, Eq)]
 pub enum StepPlan {
     // One step on, with a value in a register.
-    Assign {
-        target: u8,
-        value: u32,
-    },
+    Assign { target: u8, value: u32 },
     // One step on, and over this many instructions.
-    Pass {
-        over: u8,
-    },
+    Pass { over: u8 },
     // One step on, with a value at a location.
-    Store {
-        location: usize,
-        value: u32,
-    },
+    Store { location: usize, value: u32 },
     // One step on, with a value added to a location.
-    Sum {
-        location: usize,
-        value: u32,
-    },
-    // One step on with so many tasks made, or the first fault of their footprints; `first` is R0 of the foremost.
-    Make {
-        body: u8,
-        footprint: u8,
-        first: u32,
-        children: u8,
-    },
+    Sum { location: usize, value: u32 },
+    // One step on with tasks made, or the first fault of their footprints.
+    Make(Spawning),
+}
+
+// The tasks that a step makes: their body and footprint, R0 of the foremost, and how many there are.
+#[derive(Clone, Copy, Debug, PartialEq, Eq)]
+pub struct Spawning {
+    pub body: u8,
+    pub footprint: u8,
+    pub first: u32,
+    pub children: u8,
 }
 
 mod parts;

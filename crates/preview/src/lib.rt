@@ -2,7 +2,7 @@
 // `preview_c`. A refusal is 128 plus its number.
 #![tactic(auto)]
 
-ghost use Rattle.std.specs.Prelude.{◌≡◌, [], length, unwrap_or};
+ghost use Rattle.std.specs.Prelude.{◌≡◌, length};
 ghost use Rattle.semantics.specs.Operations.{gives};
 ghost use Rattle.runtime.specs.View.{model};
 ghost use Rattle.preview.specs.Preview.{refusal_over_c, check_over_c, final_entries, hand_run_over_c, Answers};
@@ -31,20 +31,9 @@ pub fn preview_check(list: &[u8]) -> u32
 fn delivered(run: Run, res: &mut [u8]) -> u32
     ensures { Answers (final_entries (length res.old) (gives (model run))) res.old res.new result }
 {
-    let locations = usize::from(run.tables.locations).min(64);
-    match library::write_numbers(&run.memory[..locations], res) {
+    match library::write_numbers(library::entries(&run.memory, run.tables.locations), res) {
         Ok(()) => 0,
         Err(Short) => refused(17),
-    }
-}
-
-// The numbers of a table; bytes that are no table have none.
-fn numbers_of(table: &Option<[u16; 15]>) -> &[u16]
-    ensures { result.now ≡ unwrap_or table.now [] }
-{
-    match table {
-        Some(numbers) => numbers,
-        None => &[],
     }
 }
 
@@ -55,7 +44,8 @@ pub fn preview_hand_run(list: &[u8], library: &[u8], table: &[u8], res: &mut [u8
 {
     let memory = library::read_numbers(library);
     let weights = library::read_table(table);
-    match sequence::sequential(list, memory.as_slice(), numbers_of(&weights)) {
+    // Bytes that are no table have no weights.
+    match sequence::sequential(list, memory.as_slice(), weights.as_slice().as_flattened()) {
         Ok(run) => delivered(run, res),
         Err(unopened) => refused(u8::from(unopened)),
     }

@@ -1,8 +1,8 @@
 -- Laws of what the reader answers: a list of too many tasks, an accepted list, and a file of no bytes.
-use Prim.Native.Nat.{ℕ, zero, suc, ◌≤◌, ◌<◌}
+use Prim.Native.Nat.{ℕ, ◌≤◌, ◌<◌}
 use mathlib.Core.Path.{◌≡◌, refl, sym, ap, ◌∙◌, subst}
 use native.Mathlib.Omega.{arith}
-use lib.ListN.{get_or, replicate}
+use lib.ListN.{get_or}
 use borrow.Author.Tests.{lt-leb}
 use Rattle.tasklist.specs.declared.Tables.{Tables}
 use Rattle.tasklist.specs.declared.Header.{Header}
@@ -17,6 +17,7 @@ use Rattle.tasklist.specs.Decode.{head, footprint, body, list_behind, accepted, 
 use Rattle.tasklist.specs.Tables.{rows, list_of, blank_tables, capped, Holds}
 use Rattle.tasklist.specs.Answers.{refusal_number, Tabled, ReadAs}
 use Rattle.tasklist.proofs.AnswerLaws.{refused_read}
+use Rattle.tasklist.proofs.CountLaws.{get_or-replicate_own}
 use Rattle.tasklist.proofs.ReaderLaws.{decode_none, decode_head_bad, decode_behind, finish_footprints_bad, finish_bodies_bad, finish_leftover, finish_whole, sized_few}
 
 -- what each stage of the reader tells of the whole list
@@ -24,18 +25,18 @@ module _ (b : List ℕ) (some : length b ≡ 0 → ⊥) where
   pub head_bad : (k : Refusal) → bad (refusal_number k) ≡ head b → ReadAs (decode b) (Err k)
   head_bad k e = refused_read (decode b) k (decode_head_bad b some (refusal_number k) (sym e))
 
-  module _ (h : Header) (b₁ : List ℕ) (head_is : took h b₁ ≡ head b) where
+  module _ {h : Header} {b₁ : List ℕ} (head_is : took h b₁ ≡ head b) where
     behind : decode b ≡ finish (list_behind h b₁)
     behind = decode_behind b some h b₁ (sym head_is)
 
     pub footprints_bad : (k : Refusal) → bad (refusal_number k) ≡ many (λ _. footprint h.locations) 0 h.footprints [] b₁ → ReadAs (decode b) (Err k)
     footprints_bad k e = refused_read (decode b) k (behind ∙ finish_footprints_bad h b₁ (refusal_number k) (sym e))
 
-    module _ (fs : List (List Line)) (b₂ : List ℕ) (footprints : took fs b₂ ≡ many (λ _. footprint h.locations) 0 h.footprints [] b₁) where
+    module _ {fs : List (List Line)} {b₂ : List ℕ} (footprints : took fs b₂ ≡ many (λ _. footprint h.locations) 0 h.footprints [] b₁) where
       pub bodies_bad : (k : Refusal) → bad (refusal_number k) ≡ many (body h) 0 h.bodies [] b₂ → ReadAs (decode b) (Err k)
       bodies_bad k e = refused_read (decode b) k (behind ∙ finish_bodies_bad h b₁ fs b₂ (sym footprints) (refusal_number k) (sym e))
 
-      module _ (bs : List (List Instruction)) (b₃ : List ℕ) (bodies : took bs b₃ ≡ many (body h) 0 h.bodies [] b₂) where
+      module _ {bs : List (List Instruction)} {b₃ : List ℕ} (bodies : took bs b₃ ≡ many (body h) 0 h.bodies [] b₂) where
         pub left_over : 0 < length b₃ → ReadAs (decode b) (Err Leftover)
         left_over l = refused_read (decode b) Leftover (behind ∙ finish_leftover h b₁ fs b₂ (sym footprints) bs b₃ (sym bodies) l)
 
@@ -74,14 +75,9 @@ one_of_each t =
       counts = t.counts;
     }
 
-ones : (n s : ℕ) → get_or {A = ℕ} (replicate n 1) s 1 ≡ 1
-ones zero s = refl
-ones (suc n) zero = refl
-ones (suc n) (suc s) = ones n s
-
 blank_holds : Holds (one_of_each blank_tables) empty_list
 unfolding blank_tables list_of rows task_count counts count_body total
-blank_holds = record { list = refl; counts = λ s. ones 32 s ∙ sym (ap capped (ones 1 s)) }
+blank_holds = record { list = refl; counts = λ s. get_or-replicate_own 32 s 1 ∙ sym (ap capped (get_or-replicate_own 1 s 1)) }
 
 blank_tabled : Tabled empty_list (one_of_each blank_tables)
 unfolding blank_tables task_count counts count_body total

@@ -1,104 +1,143 @@
 // The rows of the tables: records of a mark, a count and as many items, read one behind the other.
-ghost use Rattle.std.specs.Prelude.{ℕ, List, [], ◌≡◌, ◌*◌, ◌≤◌, ◌<◌, ◌^◌, length, map};
+ghost use Rattle.std.specs.Prelude.{ℕ, List, [], ◌≡◌, ◌*◌, ◌≤◌, take, length};
 ghost use Rattle.tasklist.specs.declared.Header.{Header};
-ghost use Rattle.tasklist.specs.declared.Instruction.{Instruction};
+ghost use Rattle.tasklist.specs.declared.Refusal.{Refusal};
+ghost use Rattle.tasklist.specs.declared.Refusal.TheVariants.{Footprint, Body};
 ghost use Rattle.tasklist.specs.Fields.{Taken, many, row};
 ghost use Rattle.tasklist.specs.Decode.{line, instruction, scope};
 ghost use Rattle.tasklist.specs.Tables.{rows};
 ghost use Rattle.tasklist.specs.Answers.{refusal_number};
-ghost use Rattle.taking.specs.Fronts.{taken_as};
-ghost use Rattle.reader.specs.Rows.{rows_taken};
+ghost use Rattle.taking.specs.Fronts.{taken, taken_into};
 
 use taking::{take_counted, take_instruction, take_line};
-use tasklist::{Cell, Header, Instruction, Line, Refusal, Scope};
+use tasklist::{Header, Instruction, Line, Refusal, Scope};
 
-// What a row of a table holds: a footprint its lines, a body its instructions. It is taken at its place in a row of so many.
+// Where an item stands: the list's head, the number of its row, how many items that has, and the item's place there.
+#[derive(Clone, Copy)]
+pub struct Position {
+    pub head: Header,
+    pub row: usize,
+    pub size: usize,
+    pub place: usize,
+}
+
+// What a row of a table holds: a footprint its lines, a body its instructions.
 pub trait Item: Copy {
-    type Field;
+    // the second byte of the mark of a row's record
+    const MARK: u8;
 
-    // what the definitions take it for
-    ghost field: { Self → Self.Field };
+    // how many items a row has at most
+    const WIDTH: u8;
 
-    ghost item: { Header → ℕ → ℕ → ℕ → List ℕ → Taken Self.Field };
+    // why a row of more is refused
+    const REFUSAL: Refusal;
 
-    fn take(
-        bytes: &[u8],
-        head: Header,
-        row: usize,
-        size: usize,
-        place: usize,
-    ) -> Result<(Self, &[u8]), Refusal>
-        ensures { taken_as field result ≡ item head row size place bytes.now };
+    ghost MARK: { ℕ };
+
+    ghost WIDTH: { ℕ };
+
+    ghost REFUSAL: { Refusal };
+
+    ghost item: { Header → ℕ → ℕ → ℕ → List ℕ → Taken Self };
+
+    // Takes the item that stands there.
+    fn take(bytes: &[u8], at: Position) -> Result<(Self, &[u8]), Refusal>
+        ensures { taken result ≡ item at.head at.row at.size at.place bytes.now };
 }
 
 impl Item for Line {
-    type Field = Line;
+    const MARK: u8 = 0x46;
 
-    ghost field = { λ l. l };
+    const WIDTH: u8 = 8;
+
+    const REFUSAL: Refusal = Refusal::Footprint;
+
+    ghost MARK = { 0x46 };
+
+    ghost WIDTH = { 8 };
+
+    ghost REFUSAL = { Footprint };
 
     ghost item = { λ head _ _ _. line head.locations };
 
-    fn take(
-        bytes: &[u8],
-        head: Header,
-        _row: usize,
-        _size: usize,
-        _place: usize,
-    ) -> Result<(Line, &[u8]), Refusal> {
-        take_line(bytes, head.locations)
+    fn take(bytes: &[u8], at: Position) -> Result<(Line, &[u8]), Refusal> {
+        take_line(bytes, at.head.locations)
     }
 }
 
-impl Item for Cell {
-    type Field = Instruction;
+impl Item for Instruction {
+    const MARK: u8 = 0x42;
 
-    ghost field = { λ c. c.instruction };
+    const WIDTH: u8 = 32;
+
+    const REFUSAL: Refusal = Refusal::Body;
+
+    ghost MARK = { 0x42 };
+
+    ghost WIDTH = { 32 };
+
+    ghost REFUSAL = { Body };
 
     ghost item = { λ head s n i. instruction (scope head s n i) };
 
-    fn take(
-        bytes: &[u8],
-        head: Header,
-        row: usize,
-        size: usize,
-        place: usize,
-    ) -> Result<(Cell, &[u8]), Refusal> {
+    fn take(bytes: &[u8], at: Position) -> Result<(Instruction, &[u8]), Refusal> {
         let scope = Scope {
-            footprints: usize::from(head.footprints),
-            bodies: usize::from(head.bodies),
-            body: row,
-            size,
-            place,
+            footprints: usize::from(at.head.footprints),
+            bodies: usize::from(at.head.bodies),
+            body: at.row,
+            size: at.size,
+            place: at.place,
         };
-        let (instruction, rest) = take_instruction(bytes, scope)?;
-        Ok((Cell { instruction }, rest))
+        take_instruction(bytes, scope)
     }
 }
 
-// Reads as many rows as there are sizes, each of a mark, a count of at most `width` and its items, and gives the bytes behind.
+// Reads a row of as many items as there is room for, and gives the bytes behind them.
+fn read_row<'a, T: Item>(
+    bytes: &'a [u8],
+    head: Header,
+    row: usize,
+    items: &mut [T],
+) -> Result<&'a [u8], Refusal>
+    ensures { taken_into items.new result ≡ many (T.item head row (length items.old)) 0 (length items.old) [] bytes.now }
+{
+    let size = items.len();
+    let mut rest = bytes;
+    for (place, held) in items.iter_mut().enumerate() {
+        let at = Position {
+            head,
+            row,
+            size,
+            place,
+        };
+        let (item, behind) = T::take(rest, at)?;
+        *held = item;
+        rest = behind;
+    }
+    Ok(rest)
+}
+
+// Reads the first `used` rows of a table, each a record of a mark, a count and its items, and gives the bytes behind them.
+// Kept: a loop by index, since a row is found by its number in one flat table, and of rows that `chunks_mut` lends nothing is
+// known behind the loop.
 pub fn read_rows<'a, T: Item>(
     bytes: &'a [u8],
     head: Header,
-    second: u8,
-    width: u8,
-    refusal: Refusal,
-    sizes: &mut [u8],
+    used: u8,
+    sizes: &mut [u8; 32],
     items: &mut [T],
 ) -> Result<&'a [u8], Refusal>
-    requires room { width * length sizes.old ≤ length items.old }
-    requires fits { length items.old < 2 ^ 32 }
-    ensures { rows_taken (rows width sizes.new (map T.field items.new)) result ≡ many (λ s. row second width (refusal_number refusal) (T.item head s)) 0 (length sizes.old) [] bytes.now }
+    requires few { used ≤ 32 }
+    requires room { T.WIDTH * 32 ≤ length items.old }
+    ensures { taken_into (rows T.WIDTH (take used sizes.new) items.new) result ≡ many (λ s. row T.MARK T.WIDTH (refusal_number T.REFUSAL) (T.item head s)) 0 used [] bytes.now }
 {
+    let width = usize::from(T::WIDTH);
     let mut rest = bytes;
-    for s in 0..sizes.len() {
-        let (count, behind) = take_counted(rest, second, width, refusal)?;
-        rest = behind;
-        let size = usize::from(count);
-        for i in 0..size {
-            let (item, behind) = T::take(rest, head, s, size, i)?;
-            rest = behind;
-            items[usize::from(width) * s + i] = item;
-        }
+    for s in 0..usize::from(used) {
+        let (count, behind) = take_counted(rest, T::MARK, T::WIDTH, T::REFUSAL)?;
+        let first = width * s;
+        let row = &mut items[first..first + usize::from(count)];
+        rest = read_row(behind, head, s, row)?;
         sizes[s] = count;
     }
     Ok(rest)

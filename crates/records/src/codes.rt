@@ -6,6 +6,7 @@ ghost use Rattle.semantics.specs.Plan.{units};
 use tasklist::Instruction;
 
 // The code of an instruction.
+// Kept: "the step decides by a match over the code number and then over the instruction's case", as the project's rule has it.
 #[tactic(auto, unfolding(tasklist::specs::Encode::instruction_fields))]
 pub fn code_of(instruction: Instruction) -> usize
     ensures { (result ≡ slice_index (instruction_fields instruction) 0) × (result < 13) }

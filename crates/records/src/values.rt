@@ -1,5 +1,5 @@
 // Values of registers and of the memory.
-ghost use Rattle.std.specs.Prelude.{◌≡◌, ◌+◌, ◌-◌, ◌%◌, ◌^◌, length, if◌then◌else◌, nat_lt, slice_index, slice_set};
+ghost use Rattle.std.specs.Prelude.{◌≡◌, ◌+◌, ◌-◌, ◌%◌, ◌^◌, if◌then◌else◌, nat_lt, slice_index, slice_set};
 ghost use Rattle.semantics.specs.Plan.{passed_over};
 ghost use Rattle.semantics.specs.Effect.{add};
 ghost use Rattle.semantics.specs.Call.{edited};
@@ -34,15 +34,15 @@ pub fn passed_over(test: u32, length: u8) -> u8
 }
 
 // The number at a location, 0 where there is none.
-pub fn value_at(memory: [u32; 64], location: usize) -> u32
-    ensures { result ≡ slice_index memory location }
+pub fn value_at(memory: &[u32; 64], location: usize) -> u32
+    ensures { result ≡ slice_index memory.now location }
 {
     memory.get(location).copied().unwrap_or(0)
 }
 
 // Puts a number at a location; leaves the memory where there is no such location.
 pub fn store(memory: &mut [u32; 64], location: usize, value: u32)
-    ensures { length memory.old ≡ 64 → memory.new ≡ slice_set memory.old location value }
+    ensures { memory.new ≡ slice_set memory.old location value }
 {
     if location < memory.len() {
         memory[location] = value;
@@ -53,7 +53,7 @@ pub fn store(memory: &mut [u32; 64], location: usize, value: u32)
 // no such location.
 #[tactic(auto, unfolding(semantics::specs::Call::edited))]
 pub fn sum(memory: &mut [u32; 64], location: usize, value: u32)
-    ensures { length memory.old ≡ 64 → memory.new ≡ edited (add location value) memory.old }
+    ensures { memory.new ≡ edited (add location value) memory.old }
 {
     if location < memory.len() {
         memory[location] = memory[location].wrapping_add(value);

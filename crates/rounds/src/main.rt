@@ -14,9 +14,10 @@ use tasklist::Refusal;
 fn run<R: Files + Print>(rt: &R) -> io::Result<()> {
     let folder = Folder::read(rt);
     let mut out = [0u8; ROOM];
+    // Kept: no `?` on the bytes. Behind it is no refusal but the bytes that were written, as `rounds_lines` writes its own refusals.
     let n = match folder.jobs.bytes() {
         Some(jobs) => host_rounds::rounds_lines(jobs, folder.library_bytes(), &mut out),
-        None => wording::open_line(OpenRefusal::List(Refusal::Incomplete), &mut out),
+        None => wording::open_line(Err(OpenRefusal::List(Refusal::Incomplete)), &mut out),
     };
     rt.write_all(&out[..n])
 }

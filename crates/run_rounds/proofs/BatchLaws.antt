@@ -1,22 +1,19 @@
 -- The calls of a round, task by task of the order: those found so far, and those still to be found, are the model's. Assumes
 -- nothing.
 use Prim.Native.Nat.{ℕ, zero, suc, ◌+◌, ◌-◌, ◌≤◌, ◌<◌}
-use mathlib.Core.Path.{◌≡◌, refl, sym, ap, subst, ◌∙◌}
+use mathlib.Core.Path.{◌≡◌, refl, sym, ap, ◌∙◌}
 use mathlib.Core.List.{List, [], ◌∷◌, ◌++◌, map, append_assoc, append-nil}
 use mathlib.Core.Bool.{false}
-use mathlib.Core.Logic.{inl, inr}
 use native.Mathlib.Omega.{arith}
 use native.Mathlib.Numerals.{add-one}
 use lib.ListN.{length, take, drop, get_or, set, length-take, length-append, drop_of_length-le}
-use lib.Seq.{drop-cons, take-suc-set, get_or-take}
+use lib.Seq.{drop-cons, take-suc-set}
 use Rattle.semantics.specs.Access.{only}
 use Rattle.semantics.specs.Call.{Call}
 use Rattle.semantics.specs.Turns.{next_call}
-use Rattle.semantics.specs.Sound.{In}
-use Rattle.semantics.proofs.Bounds.{order_below}
 use Rattle.model_rounds.specs.Rounds.{ready, ready_calls, round_calls}
+use Rattle.arrays.specs.Places.{unended}
 use Rattle.plans.specs.View as Of
-use Rattle.plans.proofs.DecideLaws.{list_accepted}
 use Rattle.runtime.specs.declared.Run.{Run}
 use Rattle.runtime.specs.View.{parts_of, model, context_of, SoundRun}
 use Rattle.runtime.specs.Calls.{calls_of_kind}
@@ -92,18 +89,18 @@ module _ (run : Run) (workers : ℕ) where
             tasks = alike;
           }
 
-      none_behind : run.left ≤ i → behind i ≡ []
+      none_behind : length (unended run.order) ≤ i → behind i ≡ []
       unfolding Of.model
-      none_behind h = drop_of_length-le (take run.left run.order) {i = i} (omega (arith, length-take run.left run.order))
+      none_behind h = drop_of_length-le (unended run.order) {i = i} h
 
       -- the order's end is reached, or the workers are used up
-      pub found_last : (SoundRun run → run.left ≤ i) → BatchOf run workers (record { count = count; kinds = kinds; tasks = tasks })
+      pub found_last : length (unended run.order) ≤ i → BatchOf run workers (record { count = count; kinds = kinds; tasks = tasks })
       unfolding only
       found_last h =
           batch
           (λ s.
           ap (λ ns. take (workers - count) (map (next_call (context_of run) (model run)) (only (ready (context_of run) (model run)) ns)))
-          (none_behind (h s))
+          (none_behind h)
           ∙ take_nothing (workers - count))
         where
           take_nothing : (k : ℕ) → take k (map (next_call (context_of run) (model run)) []) ≡ []
@@ -113,31 +110,21 @@ module _ (run : Run) (workers : ℕ) where
       pub found_enough : workers ≤ count → BatchOf run workers (record { count = count; kinds = kinds; tasks = tasks })
       found_enough h = batch (λ s. let z : workers - count ≡ 0 = omega arith in ap (λ k. to_come k i) z)
 
-      module _ (inside : i < run.left) (task : ℕ) (here : task ≡ get_or run.order i 0) where
-        next_behind : SoundRun run → behind i ≡ task ∷ behind (suc i)
+      module _ (inside : i < length (unended run.order)) (task : ℕ) (here : task ≡ get_or (unended run.order) i 0) where
+        next_behind : behind i ≡ task ∷ behind (suc i)
         unfolding Of.model
-        next_behind s =
-            drop-cons (take run.left run.order) i 0 (omega (arith, length-take run.left run.order, s.order, s.left))
-            ∙ ap (λ n. n ∷ drop (suc i) (take run.left run.order)) (get_or-take run.left run.order i 0 (omega arith) ∙ sym here)
+        next_behind = drop-cons (unended run.order) i 0 inside ∙ ap (λ n. n ∷ drop (suc i) (unended run.order)) (sym here)
 
-        -- every task in the order has a record
-        pub task_below : SoundRun run → task < 128
-        task_below s =
-            order_below (context_of run) (list_accepted (parts_of run) s) (model run) s.sound.valid task
-            (in_drop (model run).order i (subst (In task) (sym (next_behind s)) (inl refl)))
-          where
-            in_drop : (l : List ℕ) (k : ℕ) → In task (drop k l) → In task l
-            in_drop l zero h = h
-            in_drop [] (suc k) h = h
-            in_drop (x ∷ l) (suc k) h = inr (in_drop l k h)
+        fewer : i + 1 ≤ 128
+        fewer = omega (arith, length-take run.order.left run.order.places, run.order.whole)
 
         -- the task's next call would be refused: none is stored
-        pub found_held : (SoundRun run → ready (context_of run) (model run) task ≡ false) → i < 128 → Found kinds tasks count (i + 1)
+        pub found_held : (SoundRun run → ready (context_of run) (model run) task ≡ false) → Found kinds tasks count (i + 1)
         unfolding only
-        found_held h below =
+        found_held h =
             record {
               few = omega (arith, f.few);
-              within = omega arith;
+              within = fewer;
               counted = f.counted;
               calls =
                   λ s.
@@ -148,18 +135,18 @@ module _ (run : Run) (workers : ℕ) where
             passed : (s : SoundRun run) → to_come (workers - count) i ≡ to_come (workers - count) (suc i)
             passed s =
                 ap (λ ns. take (workers - count) (map (next_call (context_of run) (model run)) (only (ready (context_of run) (model run)) ns)))
-                (next_behind s)
+                next_behind
                 ∙ rw (h s) refl
 
         -- it would be accepted: it is stored
         pub found_ready :
-            (found : Kind) (kind : ℕ) → kind ≡ kind_number found → SeenAs (parts_of run) task (Some found) → i < 128 → count < workers
+            (found : Kind) (kind : ℕ) → kind ≡ kind_number found → SeenAs (parts_of run) task (Some found) → count < workers
             → Found (set kinds count kind) (set tasks count task) (count + 1) (i + 1)
         unfolding only
-        found_ready found kind q h below spare =
+        found_ready found kind q h spare =
             record {
               few = omega (arith, f.few);
-              within = omega arith;
+              within = fewer;
               counted =
                   λ s.
                   let more = length-append held (next s ∷ []) in
@@ -189,12 +176,12 @@ module _ (run : Run) (workers : ℕ) where
                 (s : SoundRun run)
                 → calls_of (take (suc count) (set kinds count kind)) (take (suc count) (set tasks count task)) ≡ held ++ (next s ∷ [])
             stored s =
-                calls_stored kinds tasks count kind task (omega (arith, whole, f.few)) (omega (arith, alike, f.few))
+                calls_stored kinds tasks count kind task (omega (arith, whole, f.few, fewer)) (omega (arith, alike, f.few, fewer))
                 ∙ ap (λ bs. held ++ bs) (ap (λ k. calls_of_kind k task) q ∙ (h s).0)
 
             first : (s : SoundRun run) → to_come (workers - count) i ≡ next s ∷ to_come (workers - suc count) (suc i)
             first s =
                 ap (λ ns. take (workers - count) (map (next_call (context_of run) (model run)) (only (ready (context_of run) (model run)) ns)))
-                (next_behind s)
+                next_behind
                 ∙ rw (h s).1 (let one : workers - count ≡ suc (workers - suc count) = omega arith in
                 ap (λ k. take k (next s ∷ map (next_call (context_of run) (model run)) (only (ready (context_of run) (model run)) (behind (suc i))))) one)

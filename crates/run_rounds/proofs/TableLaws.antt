@@ -10,9 +10,10 @@ use Rattle.runtime.specs.declared.Run.{Run}
 use Rattle.runtime.specs.declared.OpenRefusal.{OpenRefusal}
 use Rattle.runtime.specs.Asked.{OpenedAs}
 use Rattle.sequence.proofs.ReplayLaws.{still_unopened, now_fresh}
-use Rattle.run_rounds.specs.declared.RoundsTable.{RoundsTable}
+use Rattle.run_rounds.specs.declared.table.RoundsTable.{RoundsTable}
 use Rattle.run_rounds.specs.declared.Tally.{Tally}
-use Rattle.run_rounds.specs.Reports.{most_calls, TableSize, Tabled, TabledAs}
+use Rattle.run_rounds.specs.Reports.{Tabled, TabledAs}
+use Rattle.run_rounds.specs.Sizes.{most_calls, TableSize}
 use Rattle.run_rounds.specs.Looking.{TallyOf}
 use Rattle.run_rounds.proofs.ReportLaws.{reports_with}
 
@@ -80,18 +81,20 @@ module _ (bytes memory weights : List ℕ) where
   module _ (run : Run) (h : OpenedAs bytes weights (open_asked bytes memory weights) (Ok run))
       (reports : List Tally) (f : Filled run reports 16) (whole : Tally) (all : TallyOf run 128 whole)
     where
-      abbrev table : RoundsTable
-      table = record { span = whole.rounds; reports = reports }
+      abbrev table : TableSize whole.rounds reports → RoundsTable
+      table size = record { span = whole.rounds; reports = reports; size = size }
 
-      pub table_size : TableSize table
-      table_size = record { reports = f.long; few_rounds = f.few_rounds; few_calls = f.few_calls; span = all.few_rounds }
-
-      tabled : Tabled bytes memory weights table
-      tabled workers least most =
+      tabled : (size : TableSize whole.rounds reports) → Tabled bytes memory weights (table size)
+      tabled size workers least most =
           let one : workers - 1 + 1 ≡ workers = omega arith in
           reports_with workers bytes memory weights least most run h (get_or reports (workers - 1) none) whole
           (subst (λ p. TallyOf run p (get_or reports (workers - 1) none)) one (f.tallies (workers - 1) (omega arith))) all
 
-      pub whole_table : TabledAs bytes memory weights (open_asked bytes memory weights) (Ok table)
+      pub whole_table : (size : TableSize whole.rounds reports) → TabledAs bytes memory weights (open_asked bytes memory weights) (Ok (table size))
       unfolding open_asked
-      whole_table = subst (λ a. TabledAs bytes memory weights a (Ok table)) (sym (now_fresh bytes memory weights run h (λ c. initial c memory)).1) tabled
+      whole_table size = subst (λ a. TabledAs bytes memory weights a (Ok (table size))) (sym (now_fresh bytes memory weights run h (λ c. initial c memory)).1) (tabled size)
+
+-- the numbers of a table whose places are all filled
+pub table_size : (run : Run) (reports : List Tally) → Filled run reports 16 → (whole : Tally) → TallyOf run 128 whole → TableSize whole.rounds reports
+table_size run reports f whole all =
+    record { long = f.long; few_rounds = f.few_rounds; few_calls = f.few_calls; few = all.few_rounds }

@@ -59,11 +59,11 @@ module _ (from : Run) (workers : ℕ) where
           few_calls = omega (arith, h.within, h.few);
         }
 
-    pub counted_out : r.left ≡ 0 → TallyOf from workers (record { rounds = rounds; calls = calls })
+    pub counted_out : r.order.left ≡ 0 → TallyOf from workers (record { rounds = rounds; calls = calls })
     counted_out q = tallied (λ s. rounds_none (context_of from) workers (4352 - rounds) (model r) nobody)
       where
         nobody : (model r).order ≡ []
-        nobody = unfold Of.model in ap (λ k. take k r.order) q
+        nobody = unfold Of.model in ap (λ k. take k r.order.places) q
 
     pub counted_most : 4352 ≤ rounds → TallyOf from workers (record { rounds = rounds; calls = calls })
     counted_most q =
@@ -73,8 +73,8 @@ module _ (from : Run) (workers : ℕ) where
         ap (λ k. rounds_from (context_of from) workers k (model r)) z ∙ no_rounds (context_of from) workers (model r))
 
     -- one round more
-    module _ (some : r.left ≡ 0 → ⊥) (more : rounds < 4352) (b : Batch) (found : BatchOf r workers b) (next : Run)
-        (made : CallsMade (batch_calls b) r next)
+    module _ (some : r.order.left ≡ 0 → ⊥) (more : rounds < 4352) (b : Batch) (found : BatchOf r workers b) (count : ℕ) (size : count ≡ b.count)
+        (next : Run) (made : CallsMade (batch_calls b) r next)
       where
         under : context_of r ≡ context_of from
         under = same_context r from h.list h.weights
@@ -84,16 +84,16 @@ module _ (from : Run) (workers : ℕ) where
 
         one_round : (s : SoundRun from) → later rounds r ≡ batch_calls b ∷ later (rounds + 1) next
         one_round s =
-            let left = front r.order r.left (omega (arith, (h.sound s).order)) some in
+            let left = front r.order.places r.order.left (omega (arith, (h.sound s).order)) some in
             let fuel : 4352 - rounds ≡ suc (4352 - (rounds + 1)) = omega arith in
             ap (λ k. rounds_from (context_of from) workers k (model r)) fuel
-            ∙ rounds_some (context_of from) workers (4352 - (rounds + 1)) (get_or r.order 0 0) left.0 (model r) (unfold Of.model in left.1)
+            ∙ rounds_some (context_of from) workers (4352 - (rounds + 1)) (get_or r.order.places 0 0) left.0 (model r) (unfold Of.model in left.1)
             ∙ ap (λ bs. bs ∷ rounds_from (context_of from) workers (4352 - (rounds + 1)) (after_all (context_of from) (model r) bs))
             (sym (now_calls s))
             ∙ ap (λ m. batch_calls b ∷ rounds_from (context_of from) workers (4352 - (rounds + 1)) m)
             (ap (λ c. after_all c (model r) (batch_calls b)) (sym under) ∙ sym (made.run (h.sound s)))
 
-        pub counting_more : Counting next (rounds + 1) (calls + b.count)
+        pub counting_more : Counting next (rounds + 1) (calls + count)
         unfolding all_calls
         counting_more =
             record {

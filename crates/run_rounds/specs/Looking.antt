@@ -1,6 +1,5 @@
 -- What the parts promise each other: the look at a task's next call, the calls of a round, the rounds one after another.
 use Rattle.std.specs.Prelude.{ℕ, ◌≤◌, ◌≡◌, List, [], ◌∷◌, Bool, true, false, Option, Some, None, Result, Ok, Err, length, take}
-use Rattle.semantics.specs.declared.CallRefusal.{CallRefusal}
 use Rattle.semantics.specs.Call.{Call}
 use Rattle.semantics.specs.Turns.{next_call}
 use Rattle.model_rounds.specs.Rounds.{ready, round_calls, rounds_from, all_calls, most_rounds, all_workers}
@@ -17,12 +16,7 @@ use Rattle.turns.specs.Moves.{kind_number}
 use Rattle.sequence.specs.Replays.{calls_of}
 use Rattle.run_rounds.specs.declared.Batch.{Batch}
 use Rattle.run_rounds.specs.declared.Tally.{Tally}
-use Rattle.run_rounds.specs.Reports.{most_calls}
-
--- what a look at a call of this kind comes to: its kind where it would be accepted
-abbrev pub seen_by : Kind → Result ℕ CallRefusal → Option Kind
-seen_by kind (Err k) = None
-seen_by kind (Ok place) = Some kind
+use Rattle.run_rounds.specs.Sizes.{most_calls}
 
 -- whether a step is held back by the tasks ahead
 abbrev pub waits : Result StepPlan Stop → Bool

@@ -1,15 +1,16 @@
 -- What the two public functions promise: document 02, request 111. What is reported, says the model (`model_rounds`, Rounds).
-use Rattle.std.specs.Prelude.{ℕ, ◌-◌, ◌*◌, ◌≤◌, ◌≡◌, List, length, get_or, Result, Ok, Err, IsOkAnd, IsErrAnd}
+use Rattle.std.specs.Prelude.{ℕ, ◌-◌, ◌≤◌, ◌≡◌, List, Result, Ok, Err, IsOkAnd, IsErrAnd}
 use Rattle.semantics.specs.Run as Semantics
 use Rattle.semantics.specs.Operations.{Asked, denies, gives}
-use Rattle.model_rounds.specs.Rounds.{Report, most_rounds, most_workers, all_workers, rounds_asked}
+use Rattle.model_rounds.specs.Rounds.{Report, most_workers, rounds_asked}
 use Rattle.runtime.specs.declared.OpenRefusal.{OpenRefusal}
 use Rattle.runtime.specs.Asked.{open_number}
 use Rattle.run_rounds.specs.declared.RoundsRefusal.{RoundsRefusal}
 use Rattle.run_rounds.specs.declared.RoundsRefusal.TheVariants.{Workers, Unopened}
 use Rattle.run_rounds.specs.declared.Rounded.{Rounded}
-use Rattle.run_rounds.specs.declared.RoundsTable.{RoundsTable}
+use Rattle.run_rounds.specs.declared.table.RoundsTable.{RoundsTable}
 use Rattle.run_rounds.specs.declared.Tally.{Tally}
+use Rattle.run_rounds.specs.Sizes.{tally_in}
 
 -- "(24 for P outside 1 to 16, before all else.)", then open's numbers
 abbrev pub rounds_number : RoundsRefusal → ℕ
@@ -23,7 +24,7 @@ reported (Err k) = denies (rounds_number k)
 
 -- the tally at a place of a table
 abbrev pub tally_at : RoundsTable → ℕ → Tally
-tally_at r place = get_or r.reports place (record { rounds = 0; calls = 0 })
+tally_at r place = tally_in r.reports place
 
 -- the report with so many workers that a table holds
 abbrev pub report_at : RoundsTable → ℕ → Report
@@ -33,17 +34,6 @@ report_at r workers =
       calls = (tally_at r (workers - 1)).calls;
       span = r.span;
     }
-
--- no more than a call of each task a round
-abbrev pub most_calls : ℕ
-most_calls = all_workers * most_rounds
-
--- how large the numbers of a table are
-pub record TableSize (r : RoundsTable) : Type 0 where
-  pub reports : length r.reports ≡ most_workers
-  pub few_rounds : (k : ℕ) → (tally_at r k).rounds ≤ most_rounds
-  pub few_calls : (k : ℕ) → (tally_at r k).calls ≤ most_calls
-  pub span : r.span ≤ most_rounds
 
 -- a table of what is reported with each number of workers that may be asked for
 abbrev pub Tabled : List ℕ → List ℕ → List ℕ → RoundsTable → Type 0

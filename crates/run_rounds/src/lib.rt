@@ -54,18 +54,11 @@ pub struct Rounded {
     pub span: u32,
 }
 
-// The span, and the rounds and calls with 1 to 16 workers, those with P at place P - 1.
-#[derive(Clone, Copy)]
-pub struct RoundsTable {
-    pub span: u32,
-    pub reports: [Tally; REPORTS],
-}
-
 // The calls of a round: the first `count` kinds, each of the task beside it.
 // Kept: kinds and tasks in two arrays, since `sequence::all_called` takes two slices, and any byte as a kind.
 #[derive(Clone, Copy)]
-pub struct Batch {
-    pub count: usize,
+pub(crate) struct Batch {
+    pub count: u8,
     pub kinds: [u8; ALL_WORKERS],
     pub tasks: [u32; ALL_WORKERS],
 }
@@ -79,5 +72,7 @@ pub struct Tally {
 
 mod counting;
 mod looking;
+mod table;
 
 pub use counting::{publication_rounds, rounds_table};
+pub use table::RoundsTable;

@@ -1,5 +1,5 @@
 -- A call's run alone, and the tasks that it makes. Assumes nothing.
-use Rattle.std.proofs.Common.{◌≡◌, ℕ, [], ◌∷◌, refl, arith, Result, Ok, Err}
+use Rattle.std.proofs.Common.{◌≡◌, ℕ, [], ◌∷◌, refl, arith, Option, Result, Ok, Err}
 use Rattle.semantics.specs.declared.CallRefusal.{CallRefusal}
 use Rattle.semantics.specs.declared.CallRefusal.TheVariants as Why
 use Rattle.semantics.specs.Plan.{Action, step}
@@ -23,7 +23,7 @@ pub one_call : (a : Action) (run : Run) (n : ℕ) (done : Called) → CalledAs a
 one_call a run n done h = call_made a run n done.answer done.run h
 
 pub step_made :
-    (run : Run) (n : ℕ) (given : Result Block CallRefusal) (next : Run) → SteppedAs run n given next
+    (run : Run) (n : ℕ) (given : Result (Option Block) CallRefusal) (next : Run) → SteppedAs run n given next
     → CallsMade (call_of step n ∷ []) run next
 step_made run n (Ok made) next h = call_made step run n (Ok tt) next h.0
 step_made run n (Err k) next h = call_made step run n (Err k) next h

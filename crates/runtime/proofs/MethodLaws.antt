@@ -1,5 +1,5 @@
 -- A call refused, where a run stands or by value. Assumes nothing.
-use Rattle.std.proofs.Common.{◌≡◌, ℕ, ◌<◌, sym, subst, Result, Ok, Err}
+use Rattle.std.proofs.Common.{◌≡◌, ℕ, ◌<◌, sym, subst, Option, Result, Ok, Err}
 use Rattle.std.specs.Prelude.{IsErrAnd}
 use Rattle.semantics.specs.declared.CallRefusal.{CallRefusal}
 use Rattle.semantics.specs.declared.CallRefusal.TheVariants.{Number}
@@ -28,12 +28,12 @@ module _ (a : Action) (run : Run) (n : ℕ) where
 -- the same of a step
 pub step_refused :
     (run : Run) (n : ℕ) (k : CallRefusal) → (SoundRun run → decided run step n ≡ refuse (refusal_number k))
-    → (given : Result Block CallRefusal) → IsErrAnd given (λ e. e ≡ k) → SteppedAs run n given run
+    → (given : Result (Option Block) CallRefusal) → IsErrAnd given (λ e. e ≡ k) → SteppedAs run n given run
 step_refused run n k h (Ok _) q = elim q [ ]
 step_refused run n k h (Err e) q = made_refused step run n k h (Err e) q
 
 pub step_no_number :
-    (run : Run) (n : ℕ) → 127 < n → (k : CallRefusal) → k ≡ Number → (given : Result Block CallRefusal)
+    (run : Run) (n : ℕ) → 127 < n → (k : CallRefusal) → k ≡ Number → (given : Result (Option Block) CallRefusal)
     → IsErrAnd given (λ e. e ≡ k) → SteppedAs run n given run
 step_no_number run n far k q (Ok _) h = elim h [ ]
 step_no_number run n far k q (Err e) h = made_no_number step run n far k q (Err e) h

@@ -1,5 +1,7 @@
 -- Laws of the view, of a run as of its parts. Assumes nothing.
 use Rattle.std.proofs.Common.{◌≡◌, ℕ, ◌<◌, length, get_or}
+use native.Mathlib.Nat.{ℕ_set}
+use mathlib.Core.HLevel.{is_prop→PathP}
 use Rattle.semantics.specs.Run.{mode_of, task_of}
 use Rattle.semantics.specs.Answers.{task_from}
 use Rattle.arrays.specs.Rows.{row}
@@ -32,8 +34,12 @@ same_run a b q =
       memory = (q i).memory;
       records = (q i).records;
       modes = (q i).modes;
-      order = (q i).order;
-      left = (q i).left;
+      order =
+          record {
+            places = (q i).order;
+            left = (q i).left;
+            whole = is_prop→PathP (λ j. length (q j).order ≡ 128) (λ j. ℕ_set (length (q j).order) 128) a.order.whole b.order.whole i;
+          };
       calls = (q i).calls;
       weight = (q i).weight;
       weights = (q i).weights;

@@ -1,6 +1,6 @@
 -- What start, step and end promise: document 01, "Calls" and "Refused, by operation". A run promises it by its parts (crate
 -- `changes`).
-use Rattle.std.specs.Prelude.{ℕ, zero, suc, ◌≡◌, ◌+◌, ◌*◌, ◌<◌, List, [], ◌∷◌, Result, Ok, Err}
+use Rattle.std.specs.Prelude.{ℕ, zero, suc, ◌≡◌, ◌+◌, ◌*◌, ◌<◌, List, [], ◌∷◌, Option, Some, None, IfSome, Result, Ok, Err}
 use Rattle.semantics.specs.declared.CallRefusal.{CallRefusal}
 use Rattle.semantics.specs.Sequential.{made_by}
 use Rattle.tables.specs.Children.{numbers}
@@ -26,13 +26,18 @@ MadeAs a from n given r = Of.CalledAs a (parts_of from) n given (parts_of r)
 abbrev pub CalledAs : Action → Run → ℕ → Called → Type 0
 CalledAs a from n r = MadeAs a from n r.answer r.run
 
+-- the numbers of these tasks, foremost first
+abbrev pub numbers_of : Option Block → List ℕ
+numbers_of None = []
+numbers_of (Some made) = numbers made.first made.apart made.children
+
 -- A step that is accepted: these tasks are made, foremost first, and each has a place among the records.
-pub record Makes (from : Run) (n : ℕ) (made : Block) : Type 0 where
-  pub numbers : SoundRun from → made_by (decided from step n) ≡ numbers made.first made.apart made.children
-  pub near : (i : ℕ) → i < made.children → made.first + i * made.apart < 128
+pub record Makes (from : Run) (n : ℕ) (made : Option Block) : Type 0 where
+  pub numbers : SoundRun from → made_by (decided from step n) ≡ numbers_of made
+  pub near : IfSome made (λ made. (i : ℕ) → i < made.children → made.first + i * made.apart < 128)
 
 -- a step on task n, where it is accepted with the tasks that it makes
-abbrev pub SteppedAs : Run → ℕ → Result Block CallRefusal → Run → Type 0
+abbrev pub SteppedAs : Run → ℕ → Result (Option Block) CallRefusal → Run → Type 0
 SteppedAs from n (Ok made) r = MadeAs step from n (Ok tt) r × Makes from n made
 SteppedAs from n (Err k) r = MadeAs step from n (Err k) r
 

@@ -3,6 +3,7 @@ use Rattle.std.specs.Prelude.{◌≡◌, ℕ, ◌+◌, ◌-◌, ◌*◌, cond, L
 use Rattle.tasklist.specs.declared.Tables.{Tables}
 use Rattle.tasklist.specs.Encode.{joined}
 use Rattle.semantics.specs.declared.Record.{Record}
+use Rattle.arrays.specs.Places.{unended}
 use Rattle.arrays.specs.Rows.{row}
 use Rattle.records.specs.Records.{with_state}
 use Rattle.plans.specs.View.{blank_record}
@@ -21,8 +22,8 @@ pub record InitialOf (t : Tables) (numbers weights : List ℕ) (r : Run) : Type 
   pub held : take (length numbers) r.memory ≡ numbers
   pub records : r.records ≡ with_state 1 blank_record ∷ replicate 127 blank_record
   pub modes : r.modes ≡ replicate (length numbers) 2 ++ replicate (8192 - length numbers) 0
-  pub order : r.order ≡ replicate 128 0
-  pub left : r.left ≡ 1
+  pub order : r.order.places ≡ replicate 128 0
+  pub left : r.order.left ≡ 1
   pub calls : r.calls ≡ 0
   pub weight : r.weight ≡ 0
   pub table : r.weights ≡ weights
@@ -37,4 +38,4 @@ shown_at run location k = shown k (slice_index (row k run.modes) location)
 
 -- what queue shows of the tasks in the order, front to back
 abbrev pub all_shown : Run → ℕ → List ℕ
-all_shown run location = joined (shown_at run location) (take run.left run.order)
+all_shown run location = joined (shown_at run location) (unended run.order)

@@ -6,7 +6,7 @@ use Rattle.plans.specs.View.{Parts}
 use Rattle.plans.specs.View as Of
 use Rattle.runtime.specs.declared.Run.{Run}
 
--- the parts of a run: its fields
+-- the parts of a run: its fields, and those of its order
 abbrev pub parts_of : Run → Parts
 parts_of run =
     record {
@@ -14,8 +14,8 @@ parts_of run =
       memory = run.memory;
       records = run.records;
       modes = run.modes;
-      order = run.order;
-      left = run.left;
+      order = run.order.places;
+      left = run.order.left;
       calls = run.calls;
       weight = run.weight;
       weights = run.weights;

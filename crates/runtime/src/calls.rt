@@ -12,8 +12,8 @@ impl Run {
         ensures { MadeAs start self.old task result self.new }
     {
         let own = self.record(task)?;
-        let change = start_change(&self.order, &self.modes, self.left, own, task, self.weights)?;
-        self.put(task as usize, &change);
+        let change = start_change(&self.order, &self.modes, own, task, self.weights)?;
+        self.put(task, &change);
         Ok(())
     }
 
@@ -23,25 +23,23 @@ impl Run {
     {
         let own = self.record(task)?;
         let size = self.body_size(own);
-        let change = end_change(&mut self.order, self.left, own, size, task, self.weights)?;
-        self.put(task as usize, &change);
+        let change = end_change(&mut self.order, own, size, task, self.weights)?;
+        self.put(task, &change);
         Ok(())
     }
 
     // The same of a run by value.
-    pub fn start(self, task: u32) -> Called
+    pub fn start(mut self, task: u32) -> Called
         ensures { CalledAs start self task result }
     {
-        let mut run = self;
-        let answer = run.try_start(task);
-        Called { answer, run }
+        let answer = self.try_start(task);
+        Called { answer, run: self }
     }
 
-    pub fn end(self, task: u32) -> Called
+    pub fn end(mut self, task: u32) -> Called
         ensures { CalledAs «end» self task result }
     {
-        let mut run = self;
-        let answer = run.try_end(task);
-        Called { answer, run }
+        let answer = self.try_end(task);
+        Called { answer, run: self }
     }
 }

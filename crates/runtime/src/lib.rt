@@ -6,19 +6,20 @@ ghost use Rattle.std.specs.Prelude.{◌≡◌};
 ghost use Rattle.runtime.specs.declared.OpenRefusal.TheVariants.{List};
 ghost use Rattle.runtime.specs.Asked.{open_number};
 
+use arrays::Order;
 use semantics::{CallRefusal, Record};
 use tasklist::{Refusal, Tables};
 
 // A run (document 01: an open run): the accepted list, the memory (the entries), a record for each task with its row of 64
-// modes, and the order: the first `left` places are the unended tasks, front to back.
+// modes, and the order of the unended tasks.
+// Kept: records and modes in two arrays, in fixed memory, as the project's rule has it. A step lends each field by itself.
 #[derive(Clone, Copy)]
 pub struct Run {
     pub tables: Tables,
     pub memory: [u32; 64],
     pub records: [Record; 128],
     pub modes: [u8; 8192],
-    pub order: [u8; 128],
-    pub left: usize,
+    pub order: Order,
     // calls accepted, and their weight
     pub calls: u32,
     pub weight: u32,
@@ -27,6 +28,7 @@ pub struct Run {
 }
 
 // What start, step and end hand back: the answer, and the run after the call, the very same one where it is refused.
+// Kept: a call hands the changed run back with the answer, as the project's rule has it; there is a run either way.
 #[derive(Clone, Copy)]
 pub struct Called {
     pub answer: Result<(), CallRefusal>,

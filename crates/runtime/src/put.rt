@@ -1,7 +1,6 @@
 // How a change is put into a run.
-ghost use Rattle.std.specs.Prelude.{◌≡◌, ◌<◌, ◌≤◌, length, MatchResult};
-ghost use Rattle.tasklist.specs.TaskList.{body_of};
-ghost use Rattle.tasklist.specs.Tables.{list_of};
+// Kept: a u32 becomes a usize by `as`, since there is no `From`.
+ghost use Rattle.std.specs.Prelude.{◌≡◌, ◌<◌, ◌≤◌, MatchResult};
 ghost use Rattle.semantics.specs.declared.CallRefusal.TheVariants.{Number};
 ghost use Rattle.looks.specs.Looks.{BodySize};
 ghost use Rattle.changes.specs.Changes.{put};
@@ -10,10 +9,9 @@ ghost use Rattle.runtime.specs.View.{parts_of};
 ghost use Rattle.runtime.specs.Parts.{record_of};
 
 use crate::Run;
-use changes::Change;
+use changes::{Change, Made};
 use records::child_record;
 use semantics::{CallRefusal, Record};
-use tasklist::Tables;
 
 impl Run {
     // A task's record: 9 number above 127.
@@ -27,43 +25,34 @@ impl Run {
     }
 
     // How many instructions the body of a record has.
+    // Kept: counted here, though `listing::body_size` counts so too: that one promises no bound.
     pub fn body_size(&self, own: Record) -> usize
         ensures size { BodySize result own (parts_of self.now) }
         ensures small { result ≤ 32 }
     {
-        size_in(&self.tables, own.body)
+        listing::body_instructions(&self.tables, usize::from(own.body)).len()
     }
 
-    // What a call of a task changes: the task's record, how many tasks are left, and what is counted.
-    pub(crate) fn put(&mut self, task: usize, change: &Change)
-        requires { task < 128 }
+    // What a call of a task changes: the task's record, and what is counted.
+    pub(crate) fn put(&mut self, task: u32, change: &Change)
         ensures { parts_of self.new ≡ put task change.now (parts_of self.old) }
     {
-        self.records[task] = change.own;
-        self.left = change.left;
+        let task = task as usize;
+        if task < self.records.len() {
+            self.records[task] = change.own;
+        }
         self.calls = self.calls.wrapping_add(1);
         self.weight = self.weight.wrapping_add(change.weight);
     }
 }
 
-// How many instructions a body has.
-fn size_in(tables: &Tables, body: u8) -> usize
-    ensures size { result ≡ length (body_of (list_of tables.now) body) }
-    ensures small { result ≤ 32 }
-{
-    // a slice of them says how many there are
-    let _cells = &tables.cells[..];
-    listing::row_size(tables.bodies, &tables.sizes, 32, usize::from(body))
-}
-
 // The records of the tasks made, the last first.
-pub(crate) fn put_made(records: &mut [Record; 128], change: &Change)
-    requires { Fits change.now }
-    ensures { records.new ≡ with_children change.now.block.first change.now.block.apart change.now.made change.now.block.children records.old }
+pub(crate) fn put_made(records: &mut [Record; 128], made: &Made)
+    requires { Fits made.now }
+    ensures { records.new ≡ with_children made.now.block.first made.now.block.apart made.now.record made.now.block.children records.old }
 {
-    let block = change.block;
+    let block = made.block;
     for i in (0..block.children).rev() {
-        let born = child_record(change.made, u32::from(i));
-        records[block.first + usize::from(i) * usize::from(block.apart)] = born;
+        records[block.number(i)] = child_record(made.record, u32::from(i));
     }
 }

@@ -1,11 +1,10 @@
--- The sequential run of the code: changes put into the run that is put together, a task that is run whole, and the run that
--- is handed back. Assumes nothing.
+-- The sequential run of the code: the steps of a task and the tasks that each of them makes, a task that is run whole, and the run
+-- that is handed back. Assumes nothing.
 use Rattle.std.specs.Prelude.{Result, Ok, Err, IsErrAnd}
 use Rattle.std.proofs.Common.{◌≡◌, ℕ, zero, suc, ◌+◌, ◌-◌, ◌*◌, ◌<◌, ◌≤◌, Bool, true, false, cond, List, [], ◌∷◌, length, sym, refl, ap, ◌∙◌, subst, suc-mul, add-one, sub-one, arith}
 use Rattle.tasklist.specs.TaskList.{body_of}
 use Rattle.tasklist.specs.Decode.{decode, accepted}
 use Rattle.tasklist.specs.Tables.{list_of}
-use Rattle.semantics.specs.declared.CallRefusal.{CallRefusal}
 use Rattle.semantics.specs.Run.{Context, task_of}
 use Rattle.semantics.specs.Run as Semantics
 use Rattle.semantics.specs.Plan.{at_end, start, step, «end»}
@@ -15,13 +14,13 @@ use Rattle.semantics.specs.Operations.{gives, with_list, open_asked, sequential_
 use Rattle.runtime.specs.declared.Run.{Run}
 use Rattle.runtime.specs.declared.OpenRefusal.{OpenRefusal}
 use Rattle.plans.specs.Calls.{call_of}
-use Rattle.looks.specs.Looks.{BodySize}
+use Rattle.looks.specs.Looks.{BodySize, finished}
+use Rattle.looks.proofs.LookLaws.{ends}
 use Rattle.runtime.specs.View.{parts_of, model, context_of, SoundRun}
-use Rattle.runtime.specs.Calls.{decided, SteppedAs, CallsMade}
+use Rattle.runtime.specs.Calls.{decided, CallsMade}
 use Rattle.runtime.specs.Parts.{record_of}
 use Rattle.runtime.specs.Asked.{open_number, OpenedAs}
 use Rattle.plans.proofs.DecideLaws.{own_task}
-use Rattle.runtime.proofs.CallLaws.{step_made, refused_makes_none}
 use Rattle.runtime.proofs.ViewLaws.{same_context}
 use Rattle.tables.specs.Children.{numbers}
 use Rattle.sequence.specs.Replays.{RunWhole}
@@ -34,6 +33,12 @@ module _ (run : Run) (n : ℕ) (below : n < 128) (size : ℕ)
   unfolding enough
   enough_steps s =
       add-one size ∙ ap suc (same ∙ ap (λ t. length (body_of (list_of run.tables) t.body)) (sym (own_task (parts_of run) s n below)))
+
+-- Whether a task is at its end, as the code tests it.
+pub ended :
+    (r : Run) (n : ℕ) → n < 128 → (size : ℕ) → BodySize size (record_of r n) (parts_of r) → (b : Bool) → b ≡ finished size (record_of r n)
+    → SoundRun r → b ≡ at_end (context_of r) (task_of (model r) n)
+ended r n below size fits b test s = test ∙ ends (parts_of r) n size (record_of r n) below refl fits s
 
 -- The steps that are left: t more from r come to what `limit` come to from the first run.
 pub record StepsLeft (bodies n limit : ℕ) (from : Run) (t : ℕ) (r : Run) : Type 0 where
@@ -203,15 +208,14 @@ module _
           sound = λ s. each.sound (stepped.sound (before.sound s));
         }
 
--- a turn whose step is refused makes no task
-pub turn_refused :
+-- a turn that makes no task, refused or not
+pub turn_alone :
     (bodies n limit : ℕ) (from : Run) (t : ℕ) (r next : Run) → StepsLeft bodies n limit from t r → 0 < t → (b : Bool)
     → (SoundRun r → b ≡ at_end (context_of r) (task_of (model r) n)) → b ≡ false
-    → (k : CallRefusal) → SteppedAs r n (Err k) next → StepsLeft bodies n limit from (t - 1) next
+    → CallsMade (call_of step n ∷ []) r next → (SoundRun r → made_by (decided r step n) ≡ []) → StepsLeft bodies n limit from (t - 1) next
 unfolding numbers
-turn_refused bodies n limit from t r next before more b ends going k h =
-    turn_taken bodies n limit from t r next before more b ends going (step_made r n (Err k) next h) 0 0 0
-    (λ s. refused_makes_none r n k next h s) 0 next (omega arith) (each_all bodies 0 0 0 next)
+turn_alone bodies n limit from t r next before more b ends going stepped none =
+    turn_taken bodies n limit from t r next before more b ends going stepped 0 0 0 none 0 next (omega arith) (each_all bodies 0 0 0 next)
 
 -- no body left
 pub whole_none : (bodies n : ℕ) (run : Run) → bodies ≡ 0 → RunWhole bodies n run run

@@ -6,7 +6,6 @@ ghost use Rattle.sequence.specs.Replays.{calls_of, ReplayedAs};
 use runtime::{OpenRefusal, Run};
 
 // One call: 0 start, 1 step, 2 end; another kind is no call. A refused call leaves the run as it was.
-// Kept: a number for the kind, since any byte is taken.
 fn called(run: &mut Run, kind: u8, task: u32)
     ensures { CallsMade (calls_of_kind kind task) run.old run.new }
 {
@@ -25,14 +24,14 @@ fn called(run: &mut Run, kind: u8, task: u32)
 }
 
 // As many calls as the shorter slice has, one after the other.
-pub fn all_called(run: Run, kinds: &[u8], tasks: &[u32]) -> Run
+// Kept: bytes for the kinds, since any byte is taken: another kind is no call. An enum of three would ask more of callers.
+pub fn all_called(mut run: Run, kinds: &[u8], tasks: &[u32]) -> Run
     ensures { CallsMade (calls_of kinds.now tasks.now) run result }
 {
-    let mut r = run;
     for (kind, task) in kinds.iter().zip(tasks) {
-        called(&mut r, *kind, *task);
+        called(&mut run, *kind, *task);
     }
-    r
+    run
 }
 
 // Opens a run and makes these calls on it, refused ones included.

@@ -1,4 +1,5 @@
 // The sequential run (document 01: the hand run): task 0 is run whole.
+// Kept: a u32 becomes a usize by `as`, since there is no `From`; so does a child's number, which is below 128, a u32.
 ghost use Rattle.std.specs.Prelude.{◌<◌};
 ghost use Rattle.semantics.specs.Operations.{sequential_asked};
 ghost use Rattle.runtime.specs.Asked.{OpenedAs};
@@ -24,12 +25,12 @@ fn run_whole(run: &mut Run, task: u32, bodies: usize)
         if looks::at_end(own, run.body_size(own)) {
             break;
         }
-        if let Ok(made) = run.try_step(task) {
-            // each is run whole, the foremost first
-            for i in 0..made.children {
-                let child = made.first + usize::from(i) * usize::from(made.apart);
-                run_whole(run, child as u32, bodies - 1);
-            }
+        let Ok(Some(made)) = run.try_step(task) else {
+            continue;
+        };
+        // each is run whole, the foremost first
+        for i in 0..made.children {
+            run_whole(run, made.number(i) as u32, bodies - 1);
         }
     }
     let _ended = run.try_end(task);
@@ -40,7 +41,7 @@ pub fn sequential(list: &[u8], memory: &[u32], weights: &[u16]) -> Result<Run, O
     ensures { OpenedAs list.now weights.now (sequential_asked list.now memory.now weights.now) result }
 {
     let mut run = fresh::open(list, memory, weights)?;
-    let bodies = listing::body_count(run.tables);
+    let bodies = listing::body_count(&run.tables);
     run_whole(&mut run, 0, bodies);
     Ok(run)
 }

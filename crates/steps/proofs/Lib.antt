@@ -1,7 +1,5 @@
 -- Laws, each citing only what is above it.
 pub mod CarryLaws
 pub mod MakeLaws
-pub mod SpawnLaws
 pub mod ChildrenLaws
-pub mod TakenLaws
 pub mod StepChangeLaws

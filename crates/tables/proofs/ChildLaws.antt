@@ -1,9 +1,9 @@
 -- Laws of the children that one step makes: the model's by what each is given, their rows and their places. Assumes nothing.
-use Prim.Native.Nat.{ℕ, zero, suc, ◌+◌, ◌-◌, ◌*◌, ◌≤◌, ◌<◌}
-use mathlib.Core.Path.{◌≡◌, refl, sym, ap, subst, ◌∙◌}
+use Prim.Native.Nat.{ℕ, zero, suc, ◌+◌, ◌-◌, ◌*◌, ◌%◌, ◌^◌, ◌≤◌, ◌<◌}
+use mathlib.Core.Path.{◌≡◌, refl, sym, ap, ◌∙◌}
 use mathlib.Core.List.{List, [], ◌∷◌, ◌++◌, append_assoc}
 use native.Mathlib.Omega.{arith}
-use native.Mathlib.Nat.{zero-mul, suc-mul, mul-le-mul_right}
+use native.Mathlib.Nat.{zero-mul, suc-mul, mod-eq_of_lt}
 use native.Mathlib.Decide.{ℕ_discrete}
 use native.Mathlib.Numerals.{sub-one}
 use lib.ListN.{length, take, drop, get_or, set, take-append-drop, length-append, length-set, length-replicate}
@@ -15,17 +15,14 @@ use Rattle.semantics.specs.Access.{Access, access_fault}
 use Rattle.semantics.specs.Footprint.{Grant, denied, granted, all_targets, merged, unless_denied, grant, child_modes, none_made, all_made, with_first, children, first_register, fan_of}
 use Rattle.semantics.specs.Call.{splice}
 use Rattle.semantics.specs.Sound.{Distinct}
-use Rattle.std.specs.Prelude.{Some, Result, Ok, Err}
-use Rattle.std.specs.Result.{result_ok}
-use Rattle.semantics.specs.declared.Fault.{Fault}
-use Rattle.grants.specs.Grants.{spawner, grant_of, child_registers, child_grant, unless_faulted, grants_from}
+use Rattle.grants.specs.Grants.{spawner, child_registers, child_grant, unless_faulted, grants_from}
 use Rattle.tables.specs.Children.{seen_by, seen_from, numbers, Fit, RowsOf}
-use Rattle.arrays.specs.Places.{insert_at}
+use Rattle.arrays.specs.declared.order.Order.{Order}
+use Rattle.arrays.specs.Places.{unended, insert_at}
 use Rattle.tables.specs.Children.{insert_all}
 use Rattle.arrays.specs.Rows.{with}
 use Rattle.tables.specs.Children.{with_rows}
 use Rattle.grants.proofs.GrantLaws.{any_spawner}
-use Rattle.grants.proofs.TestedLaws.{child_given}
 use Rattle.arrays.proofs.SpliceLaws.{splice_at}
 
 -- the modes that were given
@@ -60,16 +57,6 @@ unfolding child_grant child_modes no_modes
 child_length registers own ls i ms q =
     grant_length (spawner (child_registers i registers) own) no_modes (all_targets (spawner (child_registers i registers) own) ls) ms q
     ∙ length-replicate {A = ℕ} 64 0
-
--- a row that was given
-modes_given : (a : Result (List ℕ) Fault) (ms : List ℕ) → grant_of a ≡ granted ms → result_ok a ≡ Some ms
-modes_given (Err k) ms q = let z : ◌≡◌ {A = ℕ} 0 1 = cc in let bad : ⊥ = omega arith in absurd bad
-modes_given (Ok modes) ms q = ap (λ g. Some (modes_in g)) q
-
-pub row_given :
-    (registers own : List ℕ) (ls : List Line) (i : ℕ) (seen : List ℕ) → seen ≡ child_registers i registers → (g : Result (List ℕ) Fault)
-    → grant_of g ≡ child_modes (spawner seen own) ls → (ms : List ℕ) → child_grant registers own ls i ≡ granted ms → result_ok g ≡ Some ms
-row_given registers own ls i seen q g h ms e = modes_given g ms (child_given registers own ls i seen q g h ∙ e)
 
 -- The children of the model, by what each is given.
 module _ (s : ℕ) (ls : List Line) (t : Task) where
@@ -169,40 +156,28 @@ seen_fan i (suc k) t = ap (λ x. x ∷ seen_from (suc i) k (first_register 0 t))
     same zero = refl
     same (suc i) = ap (λ (rs : List ℕ). record t { registers = rs }) (set-set t.registers 0 0 (suc i))
 
--- Whether they fit.
-pub fit_all :
-    (left child apart children : ℕ) → left + children ≤ 128 → child + (children - 1) * apart < 128 → Fit left child apart children
-fit_all left child apart children p h =
-    record {
-      places = p;
-      near = λ i b. let m = mul-le-mul_right {m = i} {n = children - 1} apart (omega arith) in omega (arith, m);
-    }
-
 -- Rows and places that are left to put: those of the first i children.
 module _
-    (registers own : List ℕ) (ls : List Line) (last : List ℕ) (left at child apart children : ℕ) (modes₀ order₀ : List ℕ)
+    (registers own : List ℕ) (ls : List Line) (last : List ℕ) (at child apart children : ℕ) (modes₀ : List ℕ) (order₀ : Order)
   where
-    pub record ToPut (i count : ℕ) (row modes order : List ℕ) : Type 0 where
+    pub record ToPut (i : ℕ) (row modes : List ℕ) (order : Order) : Type 0 where
       pub within : i ≤ children
-      pub counted : count + i ≡ left + children
       pub next : (rows : ℕ → List ℕ) → RowsOf registers own ls last children rows → 0 < i → row ≡ rows (i - 1)
       pub table :
-          (rows : ℕ → List ℕ) → RowsOf registers own ls last children rows → length modes₀ ≡ 8192
-          → (length modes ≡ 8192) × (with_rows child apart rows i modes ≡ with_rows child apart rows children modes₀)
+          (rows : ℕ → List ℕ) → RowsOf registers own ls last children rows
+          → with_rows child apart rows i modes ≡ with_rows child apart rows children modes₀
       pub listed :
-          length order₀ ≡ 128 → at ≤ left
-          → insert_all at child apart i (take count order) ≡ insert_all at child apart children (take left order₀)
-      pub whole : length order ≡ length order₀
+          at ≤ order₀.left
+          → (order.left + i ≡ order₀.left + children)
+          × (insert_all at child apart i (unended order) ≡ insert_all at child apart children (unended order₀))
 
-    pub to_put_all : ToPut children left last modes₀ order₀
+    pub to_put_all : ToPut children last modes₀ order₀
     to_put_all =
         record {
           within = omega arith;
-          counted = refl;
           next = λ rows r h. r.hindmost h;
-          table = λ rows r h. (h, refl);
-          listed = λ h a. refl;
-          whole = refl;
+          table = λ rows r. refl;
+          listed = λ a. (refl, refl);
         }
 
     one_row : (rows : ℕ → List ℕ) (i : ℕ) (m : List ℕ) → 0 < i
@@ -220,68 +195,63 @@ module _
 
     -- the number of the next
     pub next_number :
-        (i a b : ℕ) → 0 < i → i ≤ children → a ≡ i - 1 → b ≡ apart → Fit left child apart children
-        → (child + a * b ≡ child + (i - 1) * apart) × (child + a * b < 128)
-    next_number i a b h w p q fit =
-        let same : child + a * b ≡ child + (i - 1) * apart = λ k. child + p k * q k in
-        (same, subst (λ m. m < 128) (sym same) (fit.near (i - 1) (omega (arith, w))))
+        (i number : ℕ) → 0 < i → i ≤ children → number ≡ (child + (i - 1) * apart) % 2 ^ 64 → Fit order₀.left child apart children
+        → (number ≡ child + (i - 1) * apart) × (number < 128)
+    next_number i number h w is fit =
+        let near = fit.near (i - 1) (omega (arith, w)) in
+        let same : number ≡ child + (i - 1) * apart = is ∙ mod-eq_of_lt (omega (arith, near)) in
+        (same, omega (arith, same, near))
 
     -- one more is put
     pub put_one :
-        Fit left child apart children → (i count number : ℕ) (row modes order row' modes' order' : List ℕ)
-        → ToPut i count row modes order → 0 < i → number ≡ child + (i - 1) * apart
-        → (length modes ≡ 8192 → number < 128 → modes' ≡ with number row modes) → length modes' ≡ length modes
-        → (length order ≡ 128 → at ≤ count → count < 128 → take (count + 1) order' ≡ insert_at at number (take count order))
-        → length order' ≡ length order
+        Fit order₀.left child apart children → (i number : ℕ) (row modes : List ℕ) (order : Order) (row' modes' : List ℕ) (order' : Order)
+        → ToPut i row modes order → 0 < i → number ≡ (child + (i - 1) * apart) % 2 ^ 64
+        → (number < 128 → modes' ≡ with number row modes)
+        → (at ≤ order.left → order.left < 128
+        → (order'.left ≡ order.left + 1) × (unended order' ≡ insert_at at number (unended order)))
         → (0 < i - 1 → (ms : List ℕ) → child_grant registers own ls (i - 1 - 1) ≡ granted ms → row' ≡ ms)
-        → ToPut (i - 1) (count + 1) row' modes' order'
-    put_one fit i count number row modes order row' modes' order' e h is put same_modes put_order same_order follows =
-        let near : number < 128 = subst (λ m. m < 128) (sym is) (fit.near (i - 1) (omega (arith, e.within))) in
+        → ToPut (i - 1) row' modes' order'
+    put_one fit i number row modes order row' modes' order' e h is put_modes put_order follows =
+        let n = next_number i number h e.within is fit in
         record {
           within = omega (arith, e.within);
-          counted = omega (arith, e.counted);
           next = λ rows r b. follows b (rows (i - 1 - 1)) (r.each (i - 1 - 1) (omega (arith, e.within)));
           table =
-              λ rows r l.
-              let was = e.table rows r l in (
-                same_modes ∙ was.0,
-                ap (with_rows child apart rows (i - 1))
-                    (put was.0 near
-                    ∙ ap (λ k. with k row modes) is
-                    ∙ ap (λ x. with (child + (i - 1) * apart) x modes) (e.next rows r h))
-                    ∙ one_row rows i modes h
+              λ rows r.
+              ap (with_rows child apart rows (i - 1))
+              (put_modes n.1
+              ∙ ap (λ k. with k row modes) n.0
+              ∙ ap (λ x. with (child + (i - 1) * apart) x modes) (e.next rows r h))
+              ∙ one_row rows i modes h
+              ∙ e.table rows r;
+          listed =
+              λ a.
+              let was = e.listed a in
+              let put = put_order (omega (arith, was.0, e.within, a)) (omega (arith, was.0, fit.places)) in (
+                omega (arith, was.0, put.0),
+                ap (insert_all at child apart (i - 1)) (put.1 ∙ ap (λ k. insert_at at k (unended order)) n.0)
+                    ∙ one_place i (unended order) h
                     ∙ was.1,
               );
-          listed =
-              λ l a.
-              ap (insert_all at child apart (i - 1))
-              (put_order (e.whole ∙ l) (omega (arith, e.counted, e.within, a)) (omega (arith, e.counted, fit.places))
-              ∙ ap (λ k. insert_at at k (take count order)) is)
-              ∙ one_place i (take count order) h
-              ∙ e.listed l a;
-          whole = same_order ∙ e.whole;
         }
 
     -- all are put
-    module _ (i count : ℕ) (row modes order : List ℕ) (e : ToPut i count row modes order) (z : i ≤ 0) where
+    module _ (i : ℕ) (row modes : List ℕ) (order : Order) (e : ToPut i row modes order) (z : i ≤ 0) where
+      none_left : i ≡ 0
+      none_left = omega arith
+
       pub rows_put :
-          (rows : ℕ → List ℕ) → RowsOf registers own ls last children rows → length modes₀ ≡ 8192
-          → modes ≡ with_rows child apart rows children modes₀
+          (rows : ℕ → List ℕ) → RowsOf registers own ls last children rows → modes ≡ with_rows child apart rows children modes₀
       unfolding with_rows
-      rows_put rows r l =
-          let none_left : i ≡ 0 = omega arith in
-          sym (ap (λ k. with_rows child apart rows k modes) none_left) ∙ (e.table rows r l).1
+      rows_put rows r = sym (ap (λ k. with_rows child apart rows k modes) none_left) ∙ e.table rows r
 
       pub places_put :
-          length order₀ ≡ 128 → at ≤ left
-          → take (left + children) order ≡ insert_all at child apart children (take left order₀)
+          at ≤ order₀.left
+          → (order.left ≡ order₀.left + children) × (unended order ≡ insert_all at child apart children (unended order₀))
       unfolding insert_all
-      places_put l a =
-          let none_left : i ≡ 0 = omega arith in
-          let all : left + children ≡ count = omega (arith, e.counted) in
-          ap (λ k. take k order) all
-          ∙ sym (ap (λ k. insert_all at child apart k (take count order)) none_left)
-          ∙ e.listed l a
+      places_put a =
+          let was = e.listed a in
+          (omega (arith, was.0), sym (ap (λ k. insert_all at child apart k (unended order)) none_left) ∙ was.1)
 
 -- the last of the numbers
 numbers_last : (first apart k : ℕ) → numbers first apart (suc k) ≡ numbers first apart k ++ ((first + k * apart) ∷ [])

@@ -6,15 +6,16 @@ use Rattle.tasklist.specs.declared.Refusal.{Refusal}
 use Rattle.tasklist.specs.Fields.{Taken, bad, took}
 use Rattle.tasklist.specs.Answers.{refusal_number}
 
--- what was taken, as a view shows it, and the bytes behind it
-abbrev pub taken_as : {A B : Type 0} → (A → B) → Result (A × Bor (List ℕ)) Refusal → Taken B
-taken_as view (Ok (a, rest)) = took (view a) rest.now
-taken_as view (Err k) = bad (refusal_number k)
-
+-- what was taken, and the bytes behind it
 abbrev pub taken : {A : Type 0} → Result (A × Bor (List ℕ)) Refusal → Taken A
-taken r = taken_as (λ a. a) r
+taken (Ok (a, rest)) = took a rest.now
+taken (Err k) = bad (refusal_number k)
+
+-- what was taken into a place of the caller's, where the answer is the bytes behind it
+abbrev pub taken_into : {A : Type 0} → A → Result (Bor (List ℕ)) Refusal → Taken A
+taken_into a (Ok rest) = took a rest.now
+taken_into a (Err k) = bad (refusal_number k)
 
 -- a mark holds nothing: the bytes behind it
 abbrev pub tag_taken : Result (Bor (List ℕ)) Refusal → Taken (Unit {0})
-tag_taken (Ok rest) = took tt rest.now
-tag_taken (Err k) = bad (refusal_number k)
+tag_taken = taken_into tt

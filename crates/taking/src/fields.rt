@@ -55,8 +55,9 @@ pub fn take_counted(
 }
 
 // The number that a line's value is below, by its kind.
+// Kept: the kind is a number, as the bytes and the tables hold it.
 #[tactic(auto, unfolding(tasklist::specs::Decode::line_limit))]
-pub fn limit_of(locations: u8, kind: u8) -> u8
+fn limit_of(locations: u8, kind: u8) -> u8
     ensures { result ≡ line_limit locations kind }
 {
     match kind {

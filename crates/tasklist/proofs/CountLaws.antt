@@ -15,10 +15,11 @@ use Rattle.tasklist.specs.declared.Instruction.TheVariants.{Const, Add, Sub, Les
 use Rattle.tasklist.specs.TaskList.{total, adds, count_body, count_from, counts, blank_instruction}
 use Rattle.tasklist.specs.Tables.{capped}
 
-getD_replicate_self : {A : Type 0} (n i : ℕ) (a : A) → get_or (replicate n a) i a ≡ a
-getD_replicate_self zero i a = refl
-getD_replicate_self (suc n) zero a = refl
-getD_replicate_self (suc n) (suc i) a = getD_replicate_self n i a
+-- past the end the default stands too
+pub get_or-replicate_own : {A : Type 0} (n i : ℕ) (a : A) → get_or (replicate n a) i a ≡ a
+get_or-replicate_own zero i a = refl
+get_or-replicate_own (suc n) zero a = refl
+get_or-replicate_own (suc n) (suc i) a = get_or-replicate_own n i a
 
 pub adds_same : (f g : ℕ → ℕ) (x : Instruction) → ((a : ℕ) → f a ≡ g a) → adds f x ≡ adds g x
 adds_same f g x e = ap (λ (h : ℕ → ℕ). adds h x) (fun_ext e)
@@ -170,7 +171,7 @@ module _ (bs : List (List Instruction)) where
   pub known_starts : (n s : ℕ) → length bs ≤ s → Known s (replicate n 1)
   unfolding counts
   known_starts n s h a =
-      getD_replicate_self n a 1 ∙
+      get_or-replicate_own n a 1 ∙
       sym (ap capped (ap (λ (l : List (List Instruction)). count_from s (counts s l) a) (drop_of_length-le bs h) ∙ count_none s a))
 
   pub known_more : (s v : ℕ) (table : List ℕ) → s < length bs → s < length table → Known (suc s) table

@@ -117,10 +117,6 @@ body_length is = omega (arith, joined_length instruction_fields 4 instruction_le
 
 -- The whole list
 module _ (l : TaskList) where
-  pub head_length : length (head_bytes l) ≡ 5
-  unfolding head_bytes
-  head_length = refl
-
   pub encode_length : length (encode l) ≡ 5 + length (joined footprint_bytes l.footprints) + length (joined body_bytes l.bodies)
   unfolding encode head_bytes
   encode_length =

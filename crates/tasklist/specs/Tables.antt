@@ -1,7 +1,5 @@
 -- What the tables of the code stand for.
-use Rattle.std.specs.Prelude.{ℕ, min, ◌≡◌, List, [], ◌∷◌, map, take, drop, get_or, replicate}
-use Rattle.tasklist.specs.declared.Instruction.{Instruction}
-use Rattle.tasklist.specs.declared.Cell.{Cell}
+use Rattle.std.specs.Prelude.{ℕ, min, ◌≡◌, List, [], ◌∷◌, take, drop, get_or, replicate}
 use Rattle.tasklist.specs.declared.Tables.{Tables}
 use Rattle.tasklist.specs.TaskList.{TaskList, task_count, blank_instruction}
 use Rattle.tasklist.specs.Accepted.{blank_line}
@@ -11,9 +9,6 @@ unfoldable pub rows : {A : Type 0} → ℕ → List ℕ → List A → List (Lis
 rows w [] xs = []
 rows w (n ∷ ns) xs = take (min n w) xs ∷ rows w ns (drop w xs)
 
-abbrev pub instructions : List Cell → List Instruction
-instructions = map (λ c. c.instruction)
-
 -- the list that tables stand for, whatever they hold: at most 32 footprints of 8 lines, 32 bodies of 32 instructions
 unfoldable pub list_of : Tables → TaskList
 unfolding rows
@@ -21,11 +16,8 @@ list_of t =
     record {
       locations = t.locations;
       footprints = rows 8 (take t.footprints t.widths) t.lines;
-      bodies = rows 32 (take t.bodies t.sizes) (instructions t.cells);
+      bodies = rows 32 (take t.bodies t.sizes) t.cells;
     }
-
-abbrev pub blank_cell : Cell
-blank_cell = record { instruction = blank_instruction }
 
 -- the tables that a refused list leaves
 unfoldable pub blank_tables : Tables
@@ -37,7 +29,7 @@ blank_tables =
       widths = replicate 32 0;
       lines = replicate 256 blank_line;
       sizes = replicate 32 0;
-      cells = replicate 1024 blank_cell;
+      cells = replicate 1024 blank_instruction;
       counts = replicate 32 1;
     }
 

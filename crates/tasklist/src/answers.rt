@@ -3,7 +3,7 @@ ghost use Rattle.std.specs.Prelude.{◌≡◌};
 ghost use Rattle.tasklist.specs.Tables.{blank_tables};
 ghost use Rattle.tasklist.specs.Answers.{refusal_number};
 
-use crate::{Cell, Instruction, Line, Refusal, Tables};
+use crate::{Instruction, Line, Refusal, Tables};
 
 // Document 01's number of a refusal.
 impl From<Refusal> for u8 {
@@ -27,11 +27,9 @@ impl From<Refusal> for u8 {
 pub fn blank() -> Tables
     ensures { result ≡ blank_tables }
 {
-    let cell = Cell {
-        instruction: Instruction::Const {
-            target: 0,
-            value: 0,
-        },
+    let instruction = Instruction::Const {
+        target: 0,
+        value: 0,
     };
     Tables {
         locations: 0,
@@ -40,7 +38,7 @@ pub fn blank() -> Tables
         widths: [0u8; 32],
         lines: [Line { kind: 0, value: 0 }; 256],
         sizes: [0u8; 32],
-        cells: [cell; 1024],
+        cells: [instruction; 1024],
         counts: [1u8; 32],
     }
 }

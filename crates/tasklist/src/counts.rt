@@ -1,9 +1,9 @@
 // Task counts, from the last body to the first, each capped at 129.
-ghost use Rattle.std.specs.Prelude.{ℕ, ◌+◌, ◌≤◌, ◌<◌, ◌≡◌, length, get_or, take};
+ghost use Rattle.std.specs.Prelude.{ℕ, ◌+◌, ◌<◌, ◌≡◌, get_or, take};
 ghost use Rattle.tasklist.specs.TaskList.{adds, counts};
-ghost use Rattle.tasklist.specs.Tables.{rows, instructions, capped};
+ghost use Rattle.tasklist.specs.Tables.{rows, capped};
 
-use crate::{Cell, Instruction};
+use crate::Instruction;
 
 // The count of a body, 1 where there is none.
 fn count_of(known: &[u8; 32], body: u8) -> usize
@@ -16,7 +16,8 @@ fn count_of(known: &[u8; 32], body: u8) -> usize
 // What one instruction adds to its body's count.
 #[tactic(auto, using(crate::proofs::CountLaws::adds_nothing, crate::proofs::CountLaws::product_small), unfolding(crate::specs::TaskList::adds))]
 pub fn added(instruction: Instruction, known: &[u8; 32]) -> usize
-    ensures { (length known.now ≡ 32 → result ≡ adds (λ a. get_or known.now a 1) instruction) × (result < 65536) }
+    ensures sum { result ≡ adds (λ a. get_or known.now a 1) instruction }
+    ensures small { result < 65536 }
 {
     match instruction {
         Instruction::Spawn { body, .. } => count_of(known, body),
@@ -29,19 +30,21 @@ pub fn added(instruction: Instruction, known: &[u8; 32]) -> usize
 fn counted(n: u8, instruction: Instruction, known: &[u8; 32]) -> u8
     ensures { result ≡ capped (n + adds (λ a. get_or known.now a 1) instruction) }
 {
-    (usize::from(n) + added(instruction, known)).min(129) as u8
+    let sum = usize::from(n) + added(instruction, known);
+    u8::try_from(sum.min(129)).unwrap_or(129)
 }
 
 // The counts of all bodies, 1 where there is none.
-pub fn task_counts(bodies: usize, sizes: &[u8; 32], cells: &[Cell; 1024]) -> [u8; 32]
-    ensures { (s : ℕ) → get_or result s 1 ≡ capped (get_or (counts 0 (rows 32 (take bodies sizes.now) (instructions cells.now))) s 1) }
+// Kept: a loop by index, since of a chain of rows and sizes from the last to the first a proof doesn't know which comes.
+pub fn task_counts(bodies: usize, sizes: &[u8; 32], cells: &[Instruction; 1024]) -> [u8; 32]
+    ensures { (s : ℕ) → get_or result s 1 ≡ capped (get_or (counts 0 (rows 32 (take bodies sizes.now) cells.now)) s 1) }
 {
     let mut known = [1; 32];
     for s in (0..bodies.min(32)).rev() {
         let size = usize::from(sizes[s]).min(32);
         let mut n = 1;
-        for cell in &cells[32 * s..32 * s + size] {
-            n = counted(n, cell.instruction, &known);
+        for instruction in &cells[32 * s..32 * s + size] {
+            n = counted(n, *instruction, &known);
         }
         known[s] = n;
     }

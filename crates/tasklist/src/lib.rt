@@ -86,12 +86,6 @@ pub struct Line {
     pub value: u8,
 }
 
-// An element of the instruction table.
-#[derive(Clone, Copy)]
-pub struct Cell {
-    pub instruction: Instruction,
-}
-
 // What an instruction is tested against: how many footprints and bodies the list has, the number and size of its
 // own body, and its place there.
 #[derive(Clone, Copy)]
@@ -114,7 +108,7 @@ pub struct Tables {
     pub widths: [u8; 32],
     pub lines: [Line; 256],
     pub sizes: [u8; 32],
-    pub cells: [Cell; 1024],
+    pub cells: [Instruction; 1024],
     pub counts: [u8; 32],
 }
 

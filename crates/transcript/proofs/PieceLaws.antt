@@ -5,8 +5,8 @@ use Rattle.std.proofs.lemmas.Slice.{take-put_mid}
 use borrow.Rule.Slice.PartMut.{put_mid}
 use Prim.Native.Nat.{zero-le}
 use lib.ListN.{length-take, set}
-use lib.Seq.{sets, length-sets, take-length, take_all, take-nil, drop_at}
-use borrow.Author.Tests.{lt-ltb, le-ltb, ltb-false}
+use lib.Seq.{take-length, take_all, take-nil}
+use borrow.Author.Tests.{le-ltb, ltb-false}
 use Rattle.tasklist.specs.Encode.{joined}
 use Rattle.semantics.specs.Run.{Context}
 use Rattle.semantics.specs.Run as Semantics
@@ -20,8 +20,9 @@ use Rattle.lent.specs.declared.Lent.{Lent}
 use Rattle.lent.specs.Lines.{calls_in, lines}
 use Rattle.lent.specs.Pieces.{LentOf}
 use Rattle.wording.specs.Wording.{line}
-use Rattle.wording.specs.Promises.{Wrote}
-use Rattle.wording.proofs.ClosingLaws.{wrote_none, wrote_all}
+use Rattle.wording.specs.Promises.{Wrote, PutAt}
+use Rattle.wording.proofs.WroteLaws.{wrote_none}
+use Rattle.wording.proofs.PutLaws.{put_wrote, put_behind}
 use Rattle.transcript.specs.Promises.{whole_of, half_of, pending_bytes, exceeds, used_of, FedWith, FedAs}
 
 -- The calls that are whole, and the byte left over
@@ -75,14 +76,6 @@ pub behind_waiting :
 behind_waiting p piece buffer part from k h e given =
     rw given (take-put_mid from k buffer piece (from + length piece) refl h ∙ ap (λ l. l ++ piece) e)
 
-pub exceeds_long : (n m : ℕ) → 511 < n → exceeds n m ≡ true
-unfolding exceeds
-exceeds_long n m h = rw (lt-ltb 511 n h) refl
-
-pub exceeds_room : (n m : ℕ) → n ≤ 511 → m / 4 ≤ n / 2 → exceeds n m ≡ true
-unfolding exceeds
-exceeds_room n m h k = rw (le-ltb 511 n h, lt-ltb m (4 * (n / 2 + 1)) (omega (arith, k))) refl
-
 pub exceeds_none : (n m : ℕ) → n ≤ 511 → 4 * (n / 2 + 1) ≤ m → exceeds n m ≡ false
 unfolding exceeds
 exceeds_none n m h k = rw (le-ltb 511 n h, le-ltb m (4 * (n / 2 + 1)) k) refl
@@ -111,40 +104,36 @@ module _ (run : Run) (p : Option ℕ) (piece out : List ℕ) where
   unfolding used_of
   used_all h = ap (λ b. cond b 0 (length piece)) h
 
+  idle :
+      (q : Option ℕ) (bytes : List ℕ) → calls_in bytes ≡ [] → whole_of bytes ≡ [] → pending_bytes q ≡ half_of bytes
+      → FedWith run bytes out out (record { run = run; pending = q; used = 0; wrote = 0 })
+  unfolding lines joined
+  idle q bytes calls whole half =
+      record {
+        made = subst (λ cs. CallsMade cs run run) (sym calls) (no_calls run);
+        lines = λ s. subst (λ b. Wrote (joined line (lines (context_of run) (model run) b)) out out 0) (sym whole) (wrote_none [] out refl);
+        pending = half;
+        rest = refl;
+        long = refl;
+        within = zero-le;
+        whole = refl;
+      }
+
+  still : (q : Option ℕ) → FedWith run (pending_bytes q ++ []) out out (record { run = run; pending = q; used = 0; wrote = 0 })
+  unfolding pending_bytes half_of whole_of calls_in
+  still None = idle None [] refl refl refl
+  still (Some k) = idle (Some k) (k ∷ []) refl refl refl
+
   pub fed_idle : exceeds (length piece) (length out) ≡ true → FedAs run p piece out out (record { run = run; pending = p; used = 0; wrote = 0 })
   fed_idle h = record { used = sym (used_none h); fed = still p }
-    where
-      still : (q : Option ℕ) → FedWith run (pending_bytes q ++ []) out out (record { run = run; pending = q; used = 0; wrote = 0 })
-      still None =
-          unfold pending_bytes half_of whole_of calls_in lines joined in record {
-            made = no_calls run;
-            lines = λ s. wrote_none [] out refl;
-            pending = refl;
-            rest = refl;
-            long = refl;
-            within = zero-le;
-            whole = refl;
-          }
-      still (Some k) =
-          unfold pending_bytes half_of whole_of calls_in lines joined in record {
-            made = no_calls run;
-            lines = λ s. wrote_none [] out refl;
-            pending = refl;
-            rest = refl;
-            long = refl;
-            within = zero-le;
-            whole = refl;
-          }
 
   -- the run was lent to its calls, and their lines were put
   pub fed_taken :
       (after numbers : List ℕ) (given : Lent) (q : Option ℕ) (wrote : ℕ) → exceeds (length piece) (length out) ≡ false
       → LentOf (take (length (pending_bytes p ++ piece) / 2 * 2) (pending_bytes p ++ piece)) run given
       → pending_bytes q ≡ half_of (pending_bytes p ++ piece) → numbers ≡ take (length (pending_bytes p ++ piece) / 2) given.answers
-      → wrote ≡ length (joined line numbers) → wrote ≤ 4 * (length (pending_bytes p ++ piece) / 2)
-      → after ≡ sets out 0 (joined line numbers)
-      → FedAs run p piece out after (record { run = given.run; pending = q; used = length piece; wrote = wrote })
-  fed_taken after numbers given q wrote h l left taken count most put =
+      → PutAt (joined line numbers) out 0 after wrote → wrote ≤ 4 * (length (pending_bytes p ++ piece) / 2) → FedAs run p piece out after (record { run = given.run; pending = q; used = length piece; wrote = wrote })
+  fed_taken after numbers given q wrote h l left taken put most =
       record {
         used = sym (used_all h);
         fed = subst (λ b. FedWith run b out after (record { run = given.run; pending = q; used = length piece; wrote = wrote })) (sym all) fed;
@@ -171,7 +160,7 @@ module _ (run : Run) (p : Option ℕ) (piece out : List ℕ) where
 
       wrote_lines : Wrote (joined line numbers) out after wrote
       wrote_lines =
-          wrote_all (joined line numbers) (joined line numbers) out after wrote refl (omega (arith, joined_length p piece, room.1)) count put
+          put_wrote (joined line numbers) (joined line numbers) out after wrote refl (omega (arith, put.behind, joined_length p piece, room.1)) put
 
       fed : FedWith run bytes out after (record { run = given.run; pending = q; used = length piece; wrote = wrote })
       fed =
@@ -179,11 +168,8 @@ module _ (run : Run) (p : Option ℕ) (piece out : List ℕ) where
             made = subst (λ cs. CallsMade cs run given.run) (ap calls_in asked ∙ whole_calls bytes) l.made;
             lines = λ s. subst (λ xs. Wrote (joined line xs) out after wrote) (said s) wrote_lines;
             pending = left;
-            rest =
-                ap (drop wrote) wrote_lines.places
-                ∙ drop_at (joined line numbers) (drop (length (joined line numbers)) out) wrote (sym count)
-                ∙ ap (λ k. drop k out) (sym count);
-            long = ap length put ∙ length-sets out 0 (joined line numbers);
+            rest = put_behind (joined line numbers) out after wrote put (omega (arith, wrote_lines.within, put.long));
+            long = put.long;
             within = wrote_lines.within;
             whole = wrote_lines.whole;
           }

@@ -28,7 +28,7 @@ use Rattle.lent.specs.Lines as Called
 use Rattle.std.specs.Prelude.{Option, Some, None, Result, Ok, Err, IsOkAnd}
 use Rattle.wording.specs.Wording.{line, closing, refused_line, printed}
 use Rattle.wording.specs.Promises.{given, Wrote, half_bytes}
-use Rattle.wording.proofs.ClosingLaws.{with_room}
+use Rattle.wording.proofs.WroteLaws.{with_room}
 use Rattle.transcript.specs.declared.Fed.{Fed}
 use Rattle.transcript.specs.Transcript.{lines_from, transcript}
 use Rattle.transcript.specs.Promises.{whole_of, half_of, pending_bytes, FedAs}

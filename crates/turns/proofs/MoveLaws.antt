@@ -1,12 +1,12 @@
 -- The foremost task's next call is the model's move: the record says which call it is, and on a sound run it is accepted. Assumes
 -- nothing.
-use Rattle.std.specs.Prelude.{Result, Ok, Err, MatchResult, IsErrAnd}
-use Prim.Native.Nat.{ℕ, zero, suc, ◌<◌}
+use Rattle.std.specs.Prelude.{Some, None, Result, Ok, Err, MatchResult, IsErrAnd, slice_get}
+use Prim.Native.Nat.{ℕ, ◌<◌}
 use mathlib.Core.Path.{◌≡◌, refl, sym, ap, ◌∙◌}
 use mathlib.Core.List.{List, [], ◌∷◌}
 use mathlib.Core.Bool.{Bool, true, false, cond}
 use native.Mathlib.Omega.{arith}
-use lib.ListN.{length, take, get_or}
+use lib.ListN.{length}
 use lib.Dec.{eqb}
 use Rattle.semantics.specs.declared.Record.{Record}
 use Rattle.semantics.specs.declared.CallRefusal.{CallRefusal}
@@ -16,6 +16,7 @@ use Rattle.semantics.specs.Call.{or_same, taken, call, after}
 use Rattle.semantics.specs.Answers.{answer_number, outcome_number}
 use Rattle.semantics.specs.Turns.{next_action, next_call}
 use Rattle.semantics.proofs.Turns.{move_none, after_move_none, move_front, after_move_front, move_accepted}
+use Rattle.arrays.specs.Places.{unended}
 use Rattle.plans.specs.View.{Parts}
 use Rattle.plans.specs.View as Of
 use Rattle.plans.proofs.DecideLaws.{no_number, list_accepted, own_state}
@@ -87,20 +88,23 @@ module _ (run : Run) (n : ℕ) (done : Called) where
 
   -- which call it is, by the kind
   pub next_by_kind :
-      n < 128 → (size : ℕ) → BodySize size (record_of run n) (parts_of run) → (k : Kind) → k ≡ next_kind size (record_of run n)
-      → CalledAs (kind_action k) run n done → NextCalled run n done
-  next_by_kind below size fits k is h =
-      by_record (kind_action k) (λ s. kind_next (parts_of run) n below size (record_of run n) refl fits s ∙ ap kind_action (sym is)) h
+      n < 128 → (own : Record) → record_of run n ≡ own → (size : ℕ) → BodySize size own (parts_of run) → (k : Kind)
+      → k ≡ next_kind size own → CalledAs (kind_action k) run n done → NextCalled run n done
+  next_by_kind below own same size fits k is h =
+      by_record (kind_action k) (λ s. kind_next (parts_of run) n below size own same fits s ∙ ap kind_action (sym is)) h
 
--- the first of some places
-front : (o : List ℕ) (left : ℕ) → 0 < length o → (left ≡ 0 → ⊥) → (rest : List ℕ) × (take left o ≡ get_or o 0 0 ∷ rest)
-front [] left l h = let z : ⊥ = omega arith in absurd z
-front (n ∷ o) zero l h = absurd (h refl)
-front (n ∷ o) (suc k) l h = (take k o, refl)
+-- the first of some tasks
+none_first : (o : List ℕ) → slice_get o 0 ≡ None → o ≡ []
+none_first [] q = refl
+none_first (n ∷ o) q = cc
+
+first_is : (o : List ℕ) (n : ℕ) → slice_get o 0 ≡ Some n → (rest : List ℕ) × (o ≡ n ∷ rest)
+first_is [] n q = absurd (cc)
+first_is (m ∷ o) n q = (o, cc)
 
 -- The move.
 module _ (run : Run) where
-  pub moved_none : run.left ≡ 0 → MovedAs run (record { answer = Err NoneLeft; run = run })
+  pub moved_none : slice_get (unended run.order) 0 ≡ None → MovedAs run (record { answer = Err NoneLeft; run = run })
   unfolding outcome_number
   moved_none q =
       record {
@@ -115,26 +119,24 @@ module _ (run : Run) where
       }
     where
       nobody : (model run).order ≡ []
-      nobody = unfold Of.model in ap (λ k. take k run.order) q
+      nobody = unfold Of.model in none_first (unended run.order) q
 
-  module _ (some : run.left ≡ 0 → ⊥) (done : Called) (h : NextCalled run (get_or run.order 0 0) done) where
-    foremost : SoundRun run → (rest : List ℕ) × ((model run).order ≡ get_or run.order 0 0 ∷ rest)
+  module _ (n : ℕ) (first : slice_get (unended run.order) 0 ≡ Some n) (done : Called) (h : NextCalled run n done) where
+    foremost : (rest : List ℕ) × ((model run).order ≡ n ∷ rest)
     unfolding Of.model
-    foremost s = front run.order run.left (omega (arith, s.order)) some
+    foremost = first_is (unended run.order) n first
 
     -- the front task is never held back
     accepted : (s : SoundRun run) → answer_number done.answer ≡ 0
     unfolding next_call outcome_number
     accepted s =
-        let order = foremost s in
-        let e = move_accepted (context_of run) (list_accepted (parts_of run) s) (model run) s.sound.valid (occupied order) in
+        let e = move_accepted (context_of run) (list_accepted (parts_of run) s) (model run) s.sound.valid occupied in
         h.answer s
-        ∙ ap outcome_number (sym (move_front (context_of run) (model run) (get_or run.order 0 0) order.0 order.1))
+        ∙ ap outcome_number (sym (move_front (context_of run) (model run) n foremost.0 foremost.1))
         ∙ ap outcome_number e.1
       where
-        occupied : (rest : List ℕ) × ((model run).order ≡ get_or run.order 0 0 ∷ rest) → (model run).order ≡ [] → ⊥
-        occupied order q =
-            let z : length (get_or run.order 0 0 ∷ order.0) ≡ 0 = ap length (sym order.1 ∙ q) in omega (arith, z)
+        occupied : (model run).order ≡ [] → ⊥
+        occupied q = let z : length (n ∷ foremost.0) ≡ 0 = ap length (sym foremost.1 ∙ q) in omega (arith, z)
 
     moved_made : (u : Unit) → done.answer ≡ Ok u → MovedAs run (record { answer = Ok u; run = done.run })
     unfolding next_call
@@ -144,12 +146,8 @@ module _ (run : Run) where
               λ s.
               ap answer_number (sym q)
               ∙ h.answer s
-              ∙ ap outcome_number
-              (sym (move_front (context_of run) (model run) (get_or run.order 0 0) (foremost s).0 (foremost s).1));
-          run =
-              λ s.
-              h.run s
-              ∙ sym (after_move_front (context_of run) (model run) (get_or run.order 0 0) (foremost s).0 (foremost s).1);
+              ∙ ap outcome_number (sym (move_front (context_of run) (model run) n foremost.0 foremost.1));
+          run = λ s. h.run s ∙ sym (after_move_front (context_of run) (model run) n foremost.0 foremost.1);
           sound = h.sound;
           only_refusal = λ s k p. cc;
           list = h.list;

@@ -60,6 +60,7 @@ impl From<MoveRefusal> for u8 {
 }
 
 // What the move hands back: the answer, and the run after it, the very same one where it isn't made.
+// Kept: it hands the changed run back with the answer, as a call does; there is a run either way.
 #[derive(Clone, Copy)]
 pub struct Moved {
     pub answer: Result<(), MoveRefusal>,

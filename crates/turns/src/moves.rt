@@ -21,19 +21,19 @@ pub fn next_kind(own: Record, size: usize) -> Kind
 }
 
 // The next call of a task.
-fn next_call(run: Run, task: u32) -> Called
+fn next_call(run: Run, task: u8) -> Called
     ensures { NextCalled run task result }
 {
+    let number = u32::from(task);
     // no record: refused
-    if 127 < task {
-        return run.start(task);
-    }
-    let own = run.records[task as usize];
+    let Some(&own) = run.records.get(usize::from(task)) else {
+        return run.start(number);
+    };
     let size = run.body_size(own);
     match next_kind(own, size) {
-        Kind::Start => run.start(task),
-        Kind::Step => run.step(task),
-        Kind::End => run.end(task),
+        Kind::Start => run.start(number),
+        Kind::Step => run.step(number),
+        Kind::End => run.end(number),
     }
 }
 
@@ -41,16 +41,15 @@ fn next_call(run: Run, task: u32) -> Called
 pub fn foremost_move(run: Run) -> Moved
     ensures { MovedAs run result }
 {
-    if run.left == 0 {
+    let Some(&foremost) = run.order.as_slice().first() else {
         return Moved {
             answer: Err(MoveRefusal::NoneLeft),
             run,
         };
-    }
-    let foremost = run.order[0];
-    let done = next_call(run, u32::from(foremost));
+    };
+    let done = next_call(run, foremost);
     Moved {
-        answer: done.answer.map_err(MoveRefusal::Call),
+        answer: done.answer.map_err(MoveRefusal::from),
         run: done.run,
     }
 }

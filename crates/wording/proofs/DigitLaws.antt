@@ -107,11 +107,18 @@ pub followed_length : (n behind : ℕ) → length (followed n behind) ≡ length
 unfolding followed
 followed_length n behind = length-append (digits n) (behind ∷ [])
 
+pub decimal_length : (n behind : ℕ) → n < 2 ^ 32 → length (followed n behind) ≡ length (decimal n) + 1
+decimal_length n behind h = followed_length n behind ∙ ap (λ l. length l + 1) (sym (decimal_is n h))
+
 pub put_behind : (out new : List ℕ) (at n behind last : ℕ) → new ≡ sets out at (digits n) → last ≡ at + length (digits n)
     → set new last behind ≡ sets out at (followed n behind)
 unfolding followed
 put_behind out new at n behind last e q =
     ap (λ l. set l last behind) e ∙ ap (λ k. set (sets out at (digits n)) k behind) q ∙ sets_last out (digits n) at behind
+
+-- a number of 32 bits and the byte behind it
+pub followed_most : (n behind : ℕ) → n < 2 ^ 32 → length (followed n behind) ≤ 11
+followed_most n behind h = omega (arith, followed_length n behind, digits_most n h)
 
 -- a line of a call has at most 3 bytes, one of any byte at most 4
 pub line_most : (n : ℕ) → n ≤ 22 → length (line n) ≤ 3

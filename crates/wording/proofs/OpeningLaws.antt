@@ -1,14 +1,13 @@
 -- Laws of opening by the bytes of the two files. Assumes nothing.
-use Rattle.std.proofs.Common.{ℕ, ◌≤◌, ◌≡◌, refl, ap, subst, ◌∙◌, List, [], ◌∷◌, arith, length}
+use Rattle.std.proofs.Common.{ℕ, ◌≤◌, ◌≡◌, ap, subst, ◌∙◌, List, [], ◌∷◌, arith, length}
 use Rattle.std.specs.Prelude.{Result}
 use Rattle.tasklist.specs.declared.Refusal.{Refusal}
 use Rattle.tasklist.specs.declared.Refusal.TheVariants.{Incomplete, Tag, Head, Footprint, Body, Leftover, Tasks}
-use Rattle.tasklist.specs.Decode.{Decoded, refused, accepted, decode}
+use Rattle.tasklist.specs.Decode.{decode}
 use Rattle.tasklist.specs.Answers as Listed
-use Rattle.tasklist.proofs.Guarantees.{accepted_list}
 use Rattle.library.specs.Library.{memory_of, fitting}
-use Rattle.library.proofs.LibraryLaws.{fits_alike}
-use Rattle.semantics.specs.Operations.{denies, with_weights, with_list, open_asked}
+use Rattle.library.proofs.AskedLaws.{asked_fitting}
+use Rattle.semantics.specs.Operations.{with_list, open_asked}
 use Rattle.semantics.specs.Run.{Context, context, initial}
 use Rattle.semantics.specs.Run as Semantics
 use Rattle.runtime.specs.declared.Run.{Run}
@@ -19,24 +18,6 @@ use Rattle.wording.specs.Wording.{line, refused_line}
 use Rattle.wording.specs.Promises.{PutAt}
 use Rattle.wording.proofs.DigitLaws.{line_most}
 use Rattle.wording.proofs.PutLaws.{put_then}
-
--- The code reads at most 64 numbers, and no list has more: so it is for whatever is asked of a list and its numbers.
-pub asked_fitting :
-    {A : Type 0} (jobs library weights : List ℕ) (f : Context → List ℕ → A)
-    → with_list (decode jobs) (fitting library) weights (λ c. f c (fitting library))
-    ≡ with_list (decode jobs) (memory_of library) weights (λ c. f c (memory_of library))
-unfolding with_list
-asked_fitting {A} jobs library weights f = by_list (decode jobs) refl
-  where
-    by_list :
-        (d : Decoded) → decode jobs ≡ d
-        → with_list d (fitting library) weights (λ c. f c (fitting library))
-        ≡ with_list d (memory_of library) weights (λ c. f c (memory_of library))
-    by_list (refused k) e = refl
-    by_list (accepted l) e =
-        let ok = accepted_list jobs l e in
-        fits_alike library l.locations (λ m. with_weights weights (f (context l weights) m)) (denies 8) ok.some_location
-        ok.most_locations
 
 -- what is opened by the numbers that were read, under the weights of today
 pub asked_by :

@@ -1,11 +1,11 @@
 -- Bytes put one behind the other. Assumes nothing.
-use Rattle.std.proofs.Common.{ℕ, ◌+◌, ◌≤◌, ◌<◌, ◌≡◌, refl, sym, ap, ◌∙◌, List, [], ◌++◌, append_assoc, length, take, drop, arith, zero-add, length-append}
+use Rattle.std.proofs.Common.{ℕ, ◌+◌, ◌≤◌, ◌≡◌, refl, sym, ap, ◌∙◌, List, [], ◌++◌, append_assoc, length, take, drop, arith, zero-add, length-append}
 use Rattle.std.proofs.lemmas.List.{drop-drop}
 use borrow.Rule.Slice.PartMut.{put_mid}
 use lib.Seq.{sets, length-sets, sets-eq, drop_at}
 use Rattle.tasklist.proofs.WriterLaws.{sets_append}
 use Rattle.wording.specs.Promises.{Wrote, PutAt, PutIf}
-use Rattle.wording.proofs.ClosingLaws.{wrote_all}
+use Rattle.wording.proofs.WroteLaws.{wrote_all}
 
 module _ {x before after : List ℕ} {at stop : ℕ} (p : PutAt x before at after stop) where
   -- one behind the other
@@ -68,24 +68,26 @@ pub put_wrote :
 put_wrote given_bytes bytes before after n g room p =
     wrote_all given_bytes bytes before after n g room (p.behind ∙ zero-add (length bytes)) p.places
 
--- with room, and without
-pub put_with :
-    (wanted : ℕ) (x before : List ℕ) (at : ℕ) (after : List ℕ) (stop : ℕ) → at + wanted ≤ length before → length x ≤ wanted
-    → PutAt x before at after stop → PutIf wanted x before at after stop
-put_with wanted x before at after stop h few p =
-    record {
-      room = λ _. p;
-      most = λ _. omega (arith, p.behind);
-      without = λ l. let bad : ⊥ = omega arith in absurd bad;
-    }
+-- Bytes were put, in so many places at most.
+pub record PutMost (bytes before : List ℕ) (at : ℕ) (after : List ℕ) (stop most : ℕ) : Type 0 where
+  pub put : PutAt bytes before at after stop
+  pub few : stop ≤ at + most
 
-pub put_without : (wanted : ℕ) (x before : List ℕ) (at : ℕ) → length before < at + wanted → PutIf wanted x before at before at
-put_without wanted x before at h =
-    record {
-      room = λ l. let bad : ⊥ = omega arith in absurd bad;
-      most = λ l. let bad : ⊥ = omega arith in absurd bad;
-      without = λ _. (refl, refl);
-    }
+-- put one behind the other, where there is room for all of them
+module _ {x before : List ℕ} {at : ℕ} {after : List ℕ} {stop : ℕ} where
+  pub put_one : {most : ℕ} → PutIf most x before at after stop → at + most ≤ length before → PutMost x before at after stop most
+  put_one q room = record { put = q.room room; few = q.most room }
+
+  pub put_next :
+      {most : ℕ} {y more : List ℕ} {last : ℕ} (wanted : ℕ) → PutMost x before at after stop most → PutAt y after stop more last
+      → last ≤ stop + wanted → PutMost (x ++ y) before at more last (most + wanted)
+  put_next wanted p q few = record { put = put_then p.put q; few = omega (arith, p.few, few) }
+
+  pub put_more :
+      {most wanted : ℕ} {y more : List ℕ} {last : ℕ} → PutMost x before at after stop most → PutIf wanted y after stop more last
+      → at + (most + wanted) ≤ length before → PutMost (x ++ y) before at more last (most + wanted)
+  put_more {most} {wanted} p q room =
+      let left : stop + wanted ≤ length after = omega (arith, p.few, p.put.long, room) in put_next wanted p (q.room left) (q.most left)
 
 -- what stands behind bytes at the front is as it was
 pub put_behind : (x before after : List ℕ) (n : ℕ) → PutAt x before 0 after n → n ≤ length before → drop n after ≡ drop n before

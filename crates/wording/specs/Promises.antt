@@ -1,11 +1,18 @@
 -- What the functions promise: what they write into a lent slice.
-use Rattle.std.specs.Prelude.{ℕ, ◌+◌, ◌≤◌, ◌<◌, ◌≡◌, List, [], ◌++◌, cond, length, take, drop, leb, Option, Some, None}
+use Rattle.std.specs.Prelude.{ℕ, ◌+◌, ◌≤◌, ◌<◌, ◌≡◌, List, [], ◌++◌, cond, length, take, drop, leb, Option, Some, None, Result, Ok, Err}
 use Rattle.std.proofs.lemmas.List.Edits.{sets}
-use Rattle.wording.specs.Wording.{line}
+use Rattle.runtime.specs.declared.OpenRefusal.{OpenRefusal}
+use Rattle.runtime.specs.Asked.{open_number}
+use Rattle.wording.specs.Wording.{line, refused_line}
 
 -- these bytes where the slice has so many places, else none
 unfoldable pub given : ℕ → List ℕ → List ℕ → List ℕ
 given room out bytes = cond (leb room (length out)) bytes []
+
+-- the line of a failed open; none where it accepts
+abbrev pub open_bytes : Result Unit OpenRefusal → List ℕ
+open_bytes (Ok _) = []
+open_bytes (Err k) = refused_line (open_number k)
 
 -- n bytes were written at the front of a lent slice, and the rest of it is as it was
 pub record Wrote (bytes before after : List ℕ) (n : ℕ) : Type 0 where

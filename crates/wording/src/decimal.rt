@@ -7,6 +7,7 @@ use crate::putting::put_bytes;
 use itoa::Buffer;
 
 // Puts a number and the byte behind it at `at`, and gives the position behind both.
+#[tactic(auto, using(crate::proofs::DigitLaws::decimal_length))]
 pub fn put_followed(out: &mut [u8], at: usize, n: u32, behind: u8) -> usize
     requires { at + length (followed n behind) ≤ length out.old }
     ensures { (result ≡ at + length (followed n behind)) × (out.new ≡ sets out.old at (followed n behind)) }

@@ -1,7 +1,7 @@
 // Bytes put one behind the other: words, and numbers in decimal. Nothing is put where there is no room.
 // Kept: `out` and `at` stay two parameters. A writer that holds both would hold a `&mut`, and each clause would speak of the borrow
 // where `out.new` says it now.
-ghost use Rattle.std.specs.Prelude.{◌+◌, ◌≤◌, ◌≡◌, leb, length};
+ghost use Rattle.std.specs.Prelude.{◌+◌, ◌≤◌, ◌↔◌, IsTrue, length};
 ghost use Rattle.wording.specs.Wording.{followed};
 ghost use Rattle.wording.specs.Promises.{PutAt, PutIf};
 
@@ -21,7 +21,7 @@ pub(crate) fn put_bytes(out: &mut [u8], at: usize, word: &[u8]) -> usize
 
 // Whether so many places are left from `at` on.
 fn has_room(places: usize, at: usize, wanted: usize) -> bool
-    ensures { result ≡ leb (at + wanted) places }
+    ensures { IsTrue result ↔ (at + wanted ≤ places) }
 {
     at <= places && wanted <= places - at
 }
@@ -37,6 +37,7 @@ pub fn put_word(out: &mut [u8], at: usize, word: &[u8]) -> usize
 }
 
 // Puts a number and the byte behind it at `at`, and gives the position behind both; `at` itself where not 11 places are left.
+#[tactic(auto, using(crate::proofs::DigitLaws::followed_most, crate::proofs::PutLaws::put_by))]
 pub fn put_number(out: &mut [u8], at: usize, n: u32, behind: u8) -> usize
     ensures { PutIf 11 (followed n behind) out.old at out.new result }
 {

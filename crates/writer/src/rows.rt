@@ -1,12 +1,10 @@
-// The rows of the tables, written as records of a mark, a count and as many items, one behind the other.
-ghost use Rattle.std.specs.Prelude.{ℕ, List, ◌≡◌, ◌+◌, ◌*◌, ◌≤◌, ◌<◌, ◌^◌, length, map};
+// A row of a table, written as a record of a mark, a count and its items.
+ghost use Rattle.std.specs.Prelude.{ℕ, List, ◌≡◌, ◌+◌, ◌≤◌, length};
 ghost use Rattle.std.proofs.lemmas.List.Edits.{sets};
-ghost use Rattle.tasklist.specs.declared.Instruction.{Instruction};
-ghost use Rattle.tasklist.specs.Encode.{instruction_fields, line_fields, joined};
-ghost use Rattle.tasklist.specs.Tables.{rows};
-ghost use Rattle.writer.specs.Records.{record_bytes, records_length};
+ghost use Rattle.tasklist.specs.Encode.{instruction_fields, line_fields};
+ghost use Rattle.writer.specs.Records.{record_bytes};
 
-use tasklist::{Cell, Instruction, Line};
+use tasklist::{Instruction, Line};
 
 // Puts bytes at `at`.
 pub fn put(out: &mut [u8], at: usize, bytes: &[u8])
@@ -18,24 +16,24 @@ pub fn put(out: &mut [u8], at: usize, bytes: &[u8])
 
 // What a row of a table holds: a footprint its lines, a body its instructions.
 pub trait Item: Copy {
-    type Field;
+    // the second byte of the mark of a row's record
+    const MARK: u8;
 
-    // what the definitions take it for
-    ghost field: { Self → Self.Field };
+    ghost MARK: { ℕ };
 
-    ghost bytes: { Self.Field → List ℕ };
+    ghost bytes: { Self → List ℕ };
 
     // Puts its bytes at `at` and gives the position behind them.
     fn put(self, out: &mut [u8], at: usize) -> usize
-        requires { at + length (bytes (field self)) ≤ length out.old }
-        ensures end { result ≡ at + length (bytes (field self)) }
-        ensures places { out.new ≡ sets out.old at (bytes (field self)) };
+        requires { at + length (bytes self) ≤ length out.old }
+        ensures end { result ≡ at + length (bytes self) }
+        ensures places { out.new ≡ sets out.old at (bytes self) };
 }
 
 impl Item for Line {
-    type Field = Line;
+    const MARK: u8 = 0x46;
 
-    ghost field = { λ l. l };
+    ghost MARK = { 0x46 };
 
     ghost bytes = { line_fields };
 
@@ -46,15 +44,15 @@ impl Item for Line {
     }
 }
 
-impl Item for Cell {
-    type Field = Instruction;
+impl Item for Instruction {
+    const MARK: u8 = 0x42;
 
-    ghost field = { λ c. c.instruction };
+    ghost MARK = { 0x42 };
 
     ghost bytes = { instruction_fields };
 
     fn put(self, out: &mut [u8], at: usize) -> usize {
-        put(out, at, &fields(self.instruction));
+        put(out, at, &fields(self));
         at + 4
     }
 }
@@ -108,56 +106,18 @@ fn fields(instruction: Instruction) -> [u8; 4]
     }
 }
 
-// Puts a record of these items at `from` and gives the position behind it.
-fn put_row<T: Item>(items: &[T], second: u8, out: &mut [u8], from: usize) -> usize
+// Puts the record of a row at `from` and gives the position behind it.
+pub fn put_row<T: Item>(items: &[T], out: &mut [u8], from: usize) -> usize
     requires few { length items.now ≤ 32 }
-    requires room { from + length (record_bytes second T.bytes (map T.field items.now)) ≤ length out.old }
-    ensures end { result ≡ from + length (record_bytes second T.bytes (map T.field items.now)) }
-    ensures places { out.new ≡ sets out.old from (record_bytes second T.bytes (map T.field items.now)) }
+    requires room { from + length (record_bytes T.MARK T.bytes items.now) ≤ length out.old }
+    ensures end { result ≡ from + length (record_bytes T.MARK T.bytes items.now) }
+    ensures places { out.new ≡ sets out.old from (record_bytes T.MARK T.bytes items.now) }
 {
-    put(out, from, &[0x4A, second, items.len() as u8]);
+    let count = u8::try_from(items.len()).unwrap_or(0);
+    put(out, from, &[0x4A, T::MARK, count]);
     let mut at = from + 3;
     for item in items {
         at = item.put(out, at);
     }
     at
-}
-
-// Puts a record for each size, of that many items but at most `width`, from rows that are `width` apart, and gives the position
-// behind the last.
-pub fn put_rows<T: Item>(
-    sizes: &[u8],
-    items: &[T],
-    width: usize,
-    second: u8,
-    out: &mut [u8],
-    from: usize,
-) -> usize
-    requires narrow { width ≤ 32 }
-    requires rows { width * length sizes.now ≤ length items.now }
-    requires fits { length items.now < 2 ^ 32 }
-    requires room { from + length (joined (record_bytes second T.bytes) (rows width sizes.now (map T.field items.now))) ≤ length out.old }
-    ensures end { result ≡ from + length (joined (record_bytes second T.bytes) (rows width sizes.now (map T.field items.now))) }
-    ensures places { out.new ≡ sets out.old from (joined (record_bytes second T.bytes) (rows width sizes.now (map T.field items.now))) }
-{
-    let mut at = from;
-    for (s, size) in sizes.iter().enumerate() {
-        let size = usize::from(*size).min(width);
-        at = put_row(&items[width * s..width * s + size], second, out, at);
-    }
-    at
-}
-
-// How many bytes the records of these sizes take, of which at most `width` count, with items of `item` bytes.
-pub fn rows_length(sizes: &[u8], width: usize, item: usize) -> usize
-    requires few { length sizes.now ≤ 32 }
-    requires narrow { width ≤ 32 }
-    requires short { item ≤ 4 }
-    ensures length { result ≡ records_length width item sizes.now }
-    ensures small { result ≤ 4192 }
-{
-    sizes
-        .iter()
-        .map(|size| 3 + item * usize::from(*size).min(width))
-        .sum()
 }

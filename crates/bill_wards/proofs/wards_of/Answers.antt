@@ -19,7 +19,7 @@ loop-n-init c = (
 )
 
 pub turned-walk-requires : goal.turned-walk-requires
-turned-walk-requires c = (c.loop-n-test.true, c.loop-n.invariant.0)
+turned-walk-requires c = c.loop-n.invariant.0
 
 pub loop-n-preserved : goal.loop-n-preserved
 loop-n-preserved c =

@@ -1,7 +1,8 @@
 -- Call by call of the first bytes, until none is left. Assumes nothing.
-use Rattle.std.proofs.Common.{ap, ◌∙◌, replicate, refl}
+use Rattle.std.proofs.Common.{◌≡◌, ◌∷◌, [], rules, ap, ◌∙◌, replicate, refl}
 use Rattle.std.specs.Slice.Iter.{chunks_rest, chunks_size}
 use Rattle.std.specs.Iterator.Adapters.{enumerate_source, enumerate_count}
+use Rattle.lent.specs.Lines.{line_number}
 use Rattle.lent.proofs.LendLaws.{first_turn, next_turn, last_turn}
 use Rattle.lent.proofs.lend.Goals as goal
 
@@ -16,8 +17,9 @@ pub loop-turn-preserved : goal.loop-turn-preserved
 loop-turn-preserved c =
     let at = c.loop-turn in
     let steps = c.in-Some.ensures.steps in
-    next_turn c.args.input.now c.args.run at.run c.line_of.new.run at.answers _ c.in-Some.call.now _ _ _ _ _ c.in-Some.turn c.line_of.result
-    at.invariant steps.0 steps.1 steps.2 c.line_of.ensures.made c.line_of.ensures.line
+    let n : c.map_or.result ≡ line_number c.line_of.result = search rules in
+    next_turn c.args.input.now c.args.run at.run c.line_of.new.run at.answers _ c.in-Some.call.now _ _ _ _ _ c.in-Some.turn c.map_or.result
+    at.invariant steps.0 steps.1 steps.2 c.line_of.ensures.made (λ s. ap (λ k. k ∷ []) n ∙ c.line_of.ensures.line s)
 
 pub returns : goal.returns
 returns c =

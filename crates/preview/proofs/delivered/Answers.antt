@@ -1,19 +1,14 @@
 -- By whether the bytes fit.
 -- Assumes nothing.
-use Rattle.std.proofs.Common.{◌≡◌, ap, ◌∙◌, length, min, rules}
-use Rattle.preview.proofs.PreviewLaws.{memory_same, delivers, delivers_none}
+use Rattle.std.proofs.Common.{refl}
+use Rattle.plans.specs.View.{model as parts_model}
+use Rattle.preview.proofs.PreviewLaws.{delivers}
 use Rattle.preview.proofs.delivered.Goals as goal
 
 pub returns-in-Ok : goal.returns-in-Ok
-returns-in-Ok c =
-    let run = c.args.run in
-    let whole : length run.memory ≡ 64 = search rules in
-    let locations : c.min-locations.result ≡ min run.tables.locations 64 = c.min-locations.ensures ∙ ap (λ k. min k 64) c.from.ensures in
-    delivers run _ c.args.res.now _ (memory_same run c.min-locations.result whole locations) c.in-Ok.ensures
+unfolding parts_model
+returns-in-Ok c = delivers c.args.run _ c.args.res.now _ c.entries.ensures _ c.in-Ok.ensures 0 refl
 
 pub returns-in-Err : goal.returns-in-Err
-returns-in-Err c =
-    let run = c.args.run in
-    let whole : length run.memory ≡ 64 = search rules in
-    let locations : c.min-locations.result ≡ min run.tables.locations 64 = c.min-locations.ensures ∙ ap (λ k. min k 64) c.from.ensures in
-    delivers_none run _ c.args.res.now _ (memory_same run c.min-locations.result whole locations) _ _ c.refused.ensures c.in-Err.ensures
+unfolding parts_model
+returns-in-Err c = delivers c.args.run _ c.args.res.now _ c.entries.ensures _ c.in-Err.ensures _ c.refused.ensures

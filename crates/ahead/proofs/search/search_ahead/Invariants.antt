@@ -1,7 +1,6 @@
-use Rattle.std.proofs.Common.{◌≡◌, length}
 use Rattle.ahead.specs.Ahead.{accesses_of}
 use Rattle.ahead.proofs.SearchLaws.{SearchedTo}
 use Rattle.ahead.proofs.search.search_ahead.Given as goal
 
 abbrev pub invariant-loop-place : goal.invariant-loop-place
-invariant-loop-place l = length l.modes ≡ 8192 → SearchedTo l.modes (accesses_of l.wanted) l.tasks l.hold l.place
+invariant-loop-place l = SearchedTo l.modes (accesses_of l.wanted) l.tasks l.hold l.place

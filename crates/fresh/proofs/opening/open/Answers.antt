@@ -1,6 +1,9 @@
 -- As check, then the memory's length, then the table of weights; else the fresh run.
 -- Assumes nothing.
-use Rattle.std.proofs.Common.{arith}
+use Rattle.std.proofs.Common.{Err, ◌≡◌, length, arith, rules}
+use Rattle.semantics.specs.Operations.{open_asked}
+use Rattle.runtime.specs.declared.OpenRefusal.TheVariants.{Table}
+use Rattle.runtime.specs.Asked.{OpenedAs}
 use Rattle.fresh.proofs.OpenLaws.{listed, few_locations, answers_refused, answers_unfit, answers_table, answers_weight, answers_open}
 use Rattle.fresh.proofs.opening.open.Goals as goal
 
@@ -17,19 +20,26 @@ returns-then-memory-locations c =
     let list = listed a.list.now t c.in_ok-tables.ensures in
     answers_unfit a.list.now a.memory.now a.weights.now t list (λ e. c.if-memory-locations.true (cc))
 
-pub returns-then-weights-ne15 : goal.returns-then-weights-ne15
-returns-then-weights-ne15 c =
+pub returns-in_err-table : goal.returns-in_err-table
+returns-in_err-table c =
     let a = c.args in
     let t = c.in_ok-tables.tables in
     let list = listed a.list.now t c.in_ok-tables.ensures in
-    answers_table a.list.now a.memory.now a.weights.now t list (cc) c.if-weights-ne15.true
+    let other : length a.weights.now ≡ 15 → ⊥ = search rules in
+    let refused : OpenedAs a.list.now a.weights.now (open_asked a.list.now a.memory.now a.weights.now) (Err Table) =
+    answers_table a.list.now a.memory.now a.weights.now t list (cc) other
+    in
+    let given : c.from_residual-in_err-table.result ≡ Err Table = search rules in
+    rw given refused
 
 pub returns-then-not-all_weights : goal.returns-then-not-all_weights
 returns-then-not-all_weights c =
     let a = c.args in
     let t = c.in_ok-tables.tables in
     let list = listed a.list.now t c.in_ok-tables.ensures in
-    answers_weight a.list.now a.memory.now a.weights.now t list (cc) c.if-weights-ne15.false (cc)
+    let same : c.in_ok-table.table ≡ a.weights.now = search rules in
+    let whole : length a.weights.now ≡ 15 = search rules in
+    answers_weight a.list.now a.memory.now a.weights.now t list (cc) whole (rw (← same) (cc))
 
 pub initial-requires : goal.initial-requires
 initial-requires c =
@@ -42,5 +52,7 @@ returns c =
     let a = c.args in
     let t = c.in_ok-tables.tables in
     let list = listed a.list.now t c.in_ok-tables.ensures in
-    answers_open a.list.now a.memory.now a.weights.now t list (cc) c.if-weights-ne15.false (cc)
-    (λ k. omega (arith, c.type_inv.memory k)) c.initial.result (rw (← c.table_of-table.ensures) c.initial.ensures)
+    let same : c.in_ok-table.table ≡ a.weights.now = search rules in
+    let whole : length a.weights.now ≡ 15 = search rules in
+    answers_open a.list.now a.memory.now a.weights.now t list (cc) whole (rw (← same) (cc))
+    (λ k. omega (arith, c.type_inv.memory k)) c.initial.result (rw same at c.initial.ensures)

@@ -21,5 +21,5 @@ returns c =
     printed_shared c.args.run c.args.bill billed.result billed.new.out billed.ensures c.args.out.now c.requires
     c.in_default.field-0 c.in_default.is wards.result wards.ensures c.unwrap_or-whole.result
     (λ h. grind (arith, common_steps))
-    lines.ensures.put lines.ensures.most last.new.out last.result
+    lines.ensures.put lines.ensures.most _ (grind (arith, common_steps)) last.new.out last.result
     last.ensures.put (omega (arith, last.ensures.most))

@@ -1,39 +1,33 @@
--- Line by line: the lines that are still to be put would make them whole.
+-- The lines of the first wards are put.
 -- Assumes nothing.
-use Rattle.std.proofs.Common.{arith, subst, get_or}
-use Rattle.wording.specs.Promises.{PutAt}
-use Rattle.host_bill.specs.Lines.{job_word, told}
-use Rattle.host_bill.proofs.LineLaws.{lines_none, lines_more, lines_all}
+use Rattle.std.proofs.Common.{arith}
+use Rattle.std.proofs.lemmas.List.{length_push}
+use Rattle.std.proofs.lemmas.Iterator.Consumers.{YieldsList-turn, YieldsList-end}
+use Rattle.wording.proofs.JoinedLaws.{joined_none, joined_more, joined_all}
+use Rattle.host_bill.proofs.LineLaws.{yields_beside, beside_most, lines_joined}
 use Rattle.host_bill.proofs.lines.put_wards.Goals as goal
 
-pub loop-i-init : goal.loop-i-init
-loop-i-init c =
-    let a = c.args in
-    lines_none a.wards.numbers a.wards.weights a.pence a.wards.count a.out.now
+pub loop-number-init : goal.loop-number-init
+loop-number-init c = joined_none _ _ _ _ _
 
 pub put_line-stop-requires : goal.put_line-stop-requires
 put_line-stop-requires c =
-    let l = c.loop-i in
-    omega (arith, l.invariant.most, l.invariant.long, c.requires.1.few, c.requires.0)
-
-pub loop-i-preserved : goal.loop-i-preserved
-loop-i-preserved c =
-    let l = c.loop-i in
     let a = c.args in
-    let put = c.put_line-stop in
-    let whole = c.requires.1 in
-    lines_more a.wards.numbers a.wards.weights a.pence a.wards.count whole.few whole.numbers whole.weights whole.shared
-    a.out.now l.out l.stop l.i l.invariant c.loop-i-test.true put.new.out put.result
-    (subst (λ n. PutAt (told job_word n (get_or a.wards.weights l.i 0) (get_or a.pence l.i 0)) l.out l.stop put.new.out put.result)
-    c.from-number.ensures put.ensures.put)
-    (omega (arith, put.ensures.most))
+    let l = c.loop-number in
+    let turn = YieldsList-turn (yields_beside a.numbers.now a.weights.now a.pence.now c.into_iter-number-iterator.result (cc) (cc) (cc)) l.yielded l.number-iterator l.yielded_by _ c.next.new.self _ c.in-Some.is c.next.ensures.steps in
+    omega (arith, l.invariant.few, l.invariant.put.long, turn.0, beside_most a.numbers.now a.weights.now a.pence.now, c.requires)
+
+pub loop-number-preserved : goal.loop-number-preserved
+loop-number-preserved c =
+    let a = c.args in
+    let l = c.loop-number in
+    let turn = YieldsList-turn (yields_beside a.numbers.now a.weights.now a.pence.now c.into_iter-number-iterator.result (cc) (cc) (cc)) l.yielded l.number-iterator l.yielded_by _ c.next.new.self _ c.in-Some.is c.next.ensures.steps in
+    joined_more _ _ _ _ _ l.invariant turn.0 ((c.in-Some.number.now, c.in-Some.weight.now), c.in-Some.pence.now) (rw (← turn.1) (rw (← c.from.ensures) c.put_line-stop.ensures.put)) (omega (arith, c.put_line-stop.ensures.most)) (length_push _ _)
 
 pub returns : goal.returns
 returns c =
-    let l = c.loop-i in
     let a = c.args in
-    let whole = c.requires.1 in
-    let lines =
-    lines_all a.wards.numbers a.wards.weights a.pence a.wards.count whole.few whole.numbers whole.weights whole.shared
-    a.out.now l.out l.stop l.i l.invariant c.loop-i-test.false in
-    record { put = lines.0; most = lines.1 }
+    let l = c.loop-number in
+    let last = YieldsList-end (yields_beside a.numbers.now a.weights.now a.pence.now c.into_iter-number-iterator.result (cc) (cc) (cc)) l.yielded l.number-iterator l.yielded_by _ c.next.new.self c.in-None.is c.next.ensures.steps in
+    let all = joined_all _ _ _ _ _ l.invariant (omega (arith, last.1)) in
+    record { put = rw (← lines_joined a.numbers.now a.weights.now a.pence.now) all.0; most = omega (arith, all.1, beside_most a.numbers.now a.weights.now a.pence.now) }

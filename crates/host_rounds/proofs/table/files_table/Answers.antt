@@ -5,8 +5,8 @@ use Rattle.semantics.specs.Run.{fixed_weights}
 use Rattle.host_rounds.proofs.FileLaws.{tabled_by}
 use Rattle.host_rounds.proofs.table.files_table.Goals as goal
 
-pub returns-clause-reports : goal.returns-clause-reports
-returns-clause-reports c =
+pub returns : goal.returns
+returns c =
     let a = c.args in
     tabled_by a.jobs.now a.numbers.now fixed_weights c.as_slice.result.now c.todays_weights.result c.rounds_table.result
-    (c.as_slice.ensures ∙ c.read_numbers-memory.ensures.values) c.todays_weights.ensures c.rounds_table.ensures.reports
+    (c.as_slice.ensures ∙ c.read_numbers-memory.ensures.values) c.todays_weights.ensures c.rounds_table.ensures

@@ -4,7 +4,7 @@ use Rattle.std.proofs.Common.{arith, sym, subst, ◌∙◌}
 use Rattle.runtime.specs.Asked.{open_number}
 use Rattle.wording.specs.Wording.{refused_line}
 use Rattle.wording.specs.Promises.{Wrote, given}
-use Rattle.wording.proofs.ClosingLaws.{no_room, with_room, wrote_none}
+use Rattle.wording.proofs.WroteLaws.{no_room, with_room, wrote_none}
 use Rattle.wording.proofs.PutLaws.{put_wrote}
 use Rattle.host_rounds.specs.Lines.{table_lines, rounds_text}
 use Rattle.host_rounds.specs.Promises.{rounds_at, calls_in}
@@ -24,7 +24,7 @@ returns-in-Ok c =
     let t = c.in-Ok.table in
     let put = c.put_table in
     put_wrote (given 640 a.out.now bytes) (table_lines (calls_in t) t.span (rounds_at t)) a.out.now put.new.out put.result
-    (with_room 640 a.out.now bytes c.if-out-lt-ROOM.false ∙ text_given a.jobs.now a.numbers.now t c.in-Ok.ensures.reports)
+    (with_room 640 a.out.now bytes c.if-out-lt-ROOM.false ∙ text_given a.jobs.now a.numbers.now t c.in-Ok.ensures)
     (omega (arith, put.ensures.most, put.ensures.put.behind, c.if-out-lt-ROOM.false)) put.ensures.put
 
 pub returns-in-Err : goal.returns-in-Err
@@ -35,6 +35,6 @@ returns-in-Err c =
     let line = c.open_line in
     subst (λ x. Wrote x a.out.now line.new.out line.result)
     (with_room 11 a.out.now (refused_line (open_number k)) (omega (arith, c.if-out-lt-ROOM.false))
-    ∙ sym (text_refused a.jobs.now a.numbers.now k c.in-Err.ensures.reports)
+    ∙ sym (text_refused a.jobs.now a.numbers.now k c.in-Err.ensures)
     ∙ sym (with_room 640 a.out.now bytes c.if-out-lt-ROOM.false))
     line.ensures

@@ -1,20 +1,15 @@
 use Rattle.std.proofs.Common.{sym, ◌∙◌}
-use Rattle.looks.proofs.LookLaws.{ready_again, ready_finished, ready_now}
+use Rattle.looks.proofs.LookLaws.{ready_finished, ready_now}
 use Rattle.looks.proofs.look.step_look.Goals as goal
-
-pub returns-then-own-ne2 : goal.returns-then-own-ne2
-returns-then-own-ne2 c =
-    let a = c.args in
-    ready_again a.order.now a.left a.task c.in_ok-place.place a.own c.in_ok-place.ensures a.size c.if-own-ne2.true
 
 pub returns-then-at_end : goal.returns-then-at_end
 returns-then-at_end c =
     let a = c.args in
-    ready_finished a.order.now a.left a.task c.in_ok-place.place a.own c.in_ok-place.ensures a.size c.if-own-ne2.false
-    (sym c.at_end.ensures ∙ c.if-at_end.true)
+    let started = c.in_ok-place.ensures in
+    ready_finished a.order.now a.task c.in_ok-place.place a.own started.1 a.size started.0 (sym c.at_end.ensures ∙ c.if-at_end.true)
 
 pub returns : goal.returns
 returns c =
     let a = c.args in
-    ready_now a.order.now a.left a.task c.in_ok-place.place a.own c.in_ok-place.ensures a.size c.if-own-ne2.false
-    (sym c.at_end.ensures ∙ c.if-at_end.false)
+    let started = c.in_ok-place.ensures in
+    ready_now a.order.now a.task c.in_ok-place.place a.own started.1 a.size started.0 (sym c.at_end.ensures ∙ c.if-at_end.false)

@@ -1,80 +1,73 @@
--- The rows before s are in the table, and the first i items of row s; what is left of the list stands behind (RowLaws).
+-- Row by row (RowLaws).
 -- Assumes nothing.
-use Rattle.std.proofs.Common.{◌+◌, ◌*◌, ◌<◌, length, map, arith, rules, sym}
-use Rattle.std.proofs.lemmas.Grind.{rows}
+use Rattle.std.proofs.Common.{ℕ, ◌≡◌, ◌*◌, ◌+◌, ◌≤◌, arith, rules, sym, ◌∙◌, length, take}
+use Rattle.std.specs.List.{between}
+use Rattle.std.proofs.lemmas.List.Edits.{length-between}
 use Rattle.std.proofs.lemmas.Result.{err_from_is_err_and}
-use Rattle.tasklist.specs.Answers.{refusal_number}
+use Rattle.tasklist.specs.Tables.{rows}
 use Rattle.tasklist.proofs.TakenLaws.{counted_most}
-use Rattle.reader.proofs.RowLaws.{rows_open, row_bad, row_opens, item_bad, item_kept, row_closes, rows_close}
+use Rattle.reader.proofs.RowLaws.{taking_opens, taking_stops, taking_more, taking_closes, counted_row, uncounted_row, row_fits, row_put}
+use Rattle.reader.proofs.rows.read_rows.Given.{Over}
+use Rattle.reader.proofs.rows.read_rows.Goals.{After-from}
 use Rattle.reader.proofs.rows.read_rows.Goals as goal
 
 pub loop-s-init : goal.loop-s-init
-loop-s-init g c =
-    let a = c.args in
-    rows_open a.second a.width (refusal_number a.refusal) (g.T.Item.item a.head) (length a.sizes.now) a.bytes.now
-    a.sizes.now (map g.T.Item.field a.items.now)
+unfolding rows
+loop-s-init g c = taking_opens _ _ _
 
 pub returns-in_err-count : goal.returns-in_err-count
 returns-in_err-count g c =
-    let a = c.args in
-    let loop = c.loop-s in
+    let count = rw (c.MARK.ensures, c.WIDTH-in-loop-s.ensures, c.REFUSAL.ensures) at (sym c.in_err-count.ensures) in
     let p = err_from_is_err_and c.from_residual.result c.from_residual.ensures.1 in
-    rw (p.1, p.2)
-    (sym (row_bad a.second a.width (refusal_number a.refusal) (g.T.Item.item a.head) (length a.sizes.now) a.bytes.now
-    loop.s loop.sizes (map g.T.Item.field loop.items) loop.rest.now _ c.loop-s-test.true loop.invariant (sym c.in_err-count.ensures)))
+    rw (p.1, p.2) (taking_stops c.loop-s.invariant _ (omega arith) (uncounted_row _ _ _ _ _ _ count))
 
-pub loop-i-init : goal.loop-i-init
-loop-i-init g c =
-    let a = c.args in
-    let loop = c.loop-s in
-    let count = c.in_ok-count in
-    let counted = sym count.ensures in (
-      counted_most a.second a.width (refusal_number a.refusal) loop.rest.now count.count count.behind.now counted,
-      row_opens a.second a.width (refusal_number a.refusal) (g.T.Item.item a.head) (length a.sizes.now) a.bytes.now
-          loop.s loop.sizes (map g.T.Item.field loop.items) loop.rest.now count.count count.behind.now c.loop-s-test.true loop.invariant counted,
-    )
+-- the row stands within the table
+record Row (w s n room : ℕ) : Type 0 where
+  few : n ≤ w
+  fits : w * s + n ≤ room
 
-pub returns-in_err-item : goal.returns-in_err-item
-returns-in_err-item g c =
-    let a = c.args in
-    let loop = c.loop-s in
-    let within = c.loop-i in
-    let p = err_from_is_err_and c.from_residual-in_err-item.result c.from_residual-in_err-item.ensures.1 in
-    rw (p.1, p.2)
-    (sym (item_bad a.second a.width (refusal_number a.refusal) (g.T.Item.item a.head) (length a.sizes.now) a.bytes.now
-    loop.s c.in_ok-count.count within.i loop.sizes (map g.T.Item.field within.items) within.rest.now _ (omega arith) within.invariant.1
-    (rw c.from-size.ensures at (sym c.in_err-item.ensures))))
+inside : (g : Over) (c : After-from g) → Row g.T.Item.WIDTH c.loop-s.s c.in_ok-count.count (length c.loop-s.items)
+inside g c =
+    let w = g.T.Item.WIDTH in
+    let n = c.in_ok-count.count in
+    let counted : n ≤ c.WIDTH-in-loop-s.result = counted_most _ _ _ _ _ _ (sym c.in_ok-count.ensures) in
+    let few : n ≤ w = omega (arith, c.WIDTH-in-loop-s.ensures) in
+    record { few = few; fits = omega (arith, row_fits w c.loop-s.s n 32 (omega arith) few, c.requires.room) }
 
-pub offset_bounds-items-from : goal.offset_bounds-items-from
-offset_bounds-items-from g c =
-    let in_table : c.from.result * c.loop-s.s + c.loop-i.i < length c.loop-i.items = grind (arith, rows) in
+pub slice_bounds-row-end : goal.slice_bounds-row-end
+slice_bounds-row-end g c =
+    let fits = rw (← c.WIDTH.ensures, ← c.from-width.ensures) at (inside g c).fits in
     search rules
 
-pub loop-i-preserved : goal.loop-i-preserved
-loop-i-preserved g c =
-    let a = c.args in
-    let loop = c.loop-s in
-    let within = c.loop-i in
-    let in_table : a.width * loop.s + within.i < length within.items = grind (arith, rows) in (
-      within.invariant.0,
-      rw c.from.ensures
-          (item_kept a.second a.width (refusal_number a.refusal) (g.T.Item.item a.head) (length a.sizes.now) a.bytes.now
-          g.T.Item.field loop.s c.in_ok-count.count within.i loop.sizes within.items within.rest.now c.in_ok-item.item c.in_ok-item.behind.now
-          (omega arith) (omega arith) in_table within.invariant.1 (rw c.from-size.ensures at (sym c.in_ok-item.ensures))),
-    )
+-- and has as many places as were counted
+size_of : (g : Over) (c : After-from g)
+    → let first = c.from-width.result * c.loop-s.s in
+    length (between first (first + c.from.result) c.loop-s.items) ≡ c.in_ok-count.count
+size_of g c =
+    let first = c.from-width.result * c.loop-s.s in
+    let fits : first + c.in_ok-count.count ≤ length c.loop-s.items = rw (← c.WIDTH.ensures, ← c.from-width.ensures) at (inside g c).fits in
+    length-between c.loop-s.items first (first + c.from.result) (omega arith) ∙ omega arith
+
+pub returns-in_err-rest : goal.returns-in_err-rest
+returns-in_err-rest g c =
+    let size = size_of g (goal.at.returns-in_err-rest g c).After-from in
+    let count = rw (c.MARK.ensures, c.WIDTH-in-loop-s.ensures, c.REFUSAL.ensures) at (sym c.in_ok-count.ensures) in
+    let p = err_from_is_err_and c.from_residual-in_err-rest.result c.from_residual-in_err-rest.ensures.1 in
+    rw (p.1, p.2) (taking_stops c.loop-s.invariant _ (omega arith) (counted_row _ _ _ _ _ _ _ count ∙ sym (rw size at c.in_err-rest.ensures)))
 
 pub loop-s-preserved : goal.loop-s-preserved
 loop-s-preserved g c =
-    let a = c.args in
     let loop = c.loop-s in
-    let within = c.loop-i in
-    row_closes a.second a.width (refusal_number a.refusal) (g.T.Item.item a.head) (length a.sizes.now) a.bytes.now
-    loop.s c.in_ok-count.count within.i loop.sizes (map g.T.Item.field within.items) within.rest.now
-    (omega arith) within.invariant.0 (omega arith) within.invariant.1
+    let at = inside g (goal.at.loop-s-preserved g c).After-from in
+    let size = size_of g (goal.at.loop-s-preserved g c).After-from in
+    let count = rw (c.MARK.ensures, c.WIDTH-in-loop-s.ensures, c.REFUSAL.ensures) at (sym c.in_ok-count.ensures) in
+    taking_more loop.invariant c.read_row.new.items c.in_ok-rest.rest.now _ (omega arith)
+    (counted_row _ _ _ _ _ _ _ count ∙ sym (rw size at c.in_ok-rest.ensures))
+    (rw (c.from.ensures, c.from-width.ensures, c.WIDTH.ensures)
+    (row_put g.T.Item.WIDTH loop.s c.in_ok-count.count loop.sizes loop.items c.read_row.new.items (omega arith) at.few at.fits (c.read_row.auto.items ∙ size)))
 
 pub returns : goal.returns
 returns g c =
-    let a = c.args in
     let loop = c.loop-s in
-    rows_close a.second a.width (refusal_number a.refusal) (g.T.Item.item a.head) (length a.sizes.now) a.bytes.now
-    loop.s loop.sizes (map g.T.Item.field loop.items) loop.rest.now (omega arith) (omega arith) loop.invariant
+    let last : loop.s ≡ c.args.used = omega arith in
+    taking_closes loop.invariant (rows g.T.Item.WIDTH (take c.args.used loop.sizes) loop.items) (omega arith) (rw last)

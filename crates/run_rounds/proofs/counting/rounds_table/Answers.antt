@@ -9,12 +9,12 @@ loop-place-init c = filled_none c.in_ok-run.run'
 pub loop-place-preserved : goal.loop-place-preserved
 loop-place-preserved c =
     let l = c.loop-place in
-    filled_more c.in_ok-run.run' l.reports l.place l.invariant c.loop-place-test.true c.tally.result c.tally.ensures
+    filled_more c.in_ok-run.run' l.report-items l.place l.invariant c.loop-place-test.true c.tally.result c.tally.ensures
 
-pub returns-clause-reports : goal.returns-clause-reports
-returns-clause-reports c =
+pub returns : goal.returns
+returns c =
     let a = c.args in
     let l = c.loop-place in
     let full : l.place ≡ 16 = omega arith in
-    whole_table a.list.now a.memory.now a.weights.now c.in_ok-run.run' c.in_ok-run.ensures l.reports
-    (subst (Filled c.in_ok-run.run' l.reports) full l.invariant) c.tally-span.result c.tally-span.ensures
+    whole_table a.list.now a.memory.now a.weights.now c.in_ok-run.run' c.in_ok-run.ensures l.report-items
+    (subst (Filled c.in_ok-run.run' l.report-items) full l.invariant) c.tally-span.result c.tally-span.ensures _

@@ -14,7 +14,7 @@ loop-rounds-preserved c =
     let l = c.loop-rounds in
     let b = c.round_calls-batch in
     counting_more c.args.run c.args.workers l.run l.rounds l.calls l.invariant c.if-run-eq0.false c.loop-rounds-test.true
-    b.result b.ensures c.all_called-run.result c.all_called-run.ensures
+    b.result b.ensures c.from-calls.result c.from-calls.ensures c.all_called-run.result (rw c.from-count.ensures at c.all_called-run.ensures)
 
 pub returns : goal.returns
 returns c =

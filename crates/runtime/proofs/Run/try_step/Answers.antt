@@ -1,4 +1,4 @@
-use Rattle.std.proofs.Common.{refl, sym, subst, Ok}
+use Rattle.std.proofs.Common.{refl, sym, subst, Some, Ok}
 use Rattle.semantics.specs.Plan.{step}
 use Rattle.steps.specs.Stepping.{with_made}
 use Rattle.changes.specs.Calls.{CalledAs}
@@ -19,11 +19,15 @@ returns-in_err-change c =
     (step_refused run c.args.task c.in_err-change.field-0.0 (refused.3 (parts_of run) c.in_ok-own.ensures.1 refl)
     c.from_residual-in_err-change.result c.from_residual-in_err-change.ensures.1)
 
+pub returns-in_default : goal.returns-in_default
+returns-in_default c =
+    let stepped = rw c.in_default.is at (c.in_ok-change.ensures.1 (parts_of c.args.self.now) c.in_ok-own.ensures.1 refl) in
+    (rw c.put.ensures stepped.0, record { numbers = stepped.1; near = tt })
+
 pub returns : goal.returns
 returns c =
-    let run = c.args.self.now in
-    let n = c.args.task in
-    let change = c.in_ok-change.change in
-    let stepped = c.in_ok-change.ensures.1 (parts_of run) c.in_ok-own.ensures.1 refl in
-    let counted = subst (λ p. CalledAs step (parts_of run) n (Ok tt) (with_made change p)) (sym c.put.ensures) stepped.0 in
-    (rw c.put_made.ensures counted, record { numbers = stepped.1; near = c.in_ok-change.ensures.0.near })
+    let run = parts_of c.args.self.now in
+    let fits = rw c.in-Some.is at c.in_ok-change.ensures.0 in
+    let stepped = rw c.in-Some.is at (c.in_ok-change.ensures.1 run c.in_ok-own.ensures.1 refl) in
+    let counted = subst (λ p. CalledAs step run c.args.task (Ok tt) (with_made (Some c.in-Some.made) p)) (sym c.put.ensures) stepped.0 in
+    (rw c.put_made.ensures counted, record { numbers = stepped.1; near = fits.near })

@@ -4,4 +4,4 @@ use Rattle.sequence.proofs.ReplayLaws.{Left}
 use Rattle.sequence.proofs.replaying.all_called.Given as goal
 
 abbrev pub invariant-loop-kind : goal.invariant-loop-kind
-invariant-loop-kind l = Left l.kinds l.tasks l.initial.r (iter_rest (zip_first l.kind-iterator)) (iter_rest (zip_second l.kind-iterator)) l.r
+invariant-loop-kind l = Left l.kinds l.tasks l.fn.run (iter_rest (zip_first l.kind-iterator)) (iter_rest (zip_second l.kind-iterator)) l.run

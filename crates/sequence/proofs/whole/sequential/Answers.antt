@@ -11,4 +11,4 @@ pub returns : goal.returns
 returns c =
     let a = c.args in
     sequential_made a.list.now a.memory.now a.weights.now c.in_ok-run.run' c.in_ok-run.ensures c.body_count-bodies.result
-    c.body_count-bodies.ensures c.run_whole.new.run c.run_whole.ensures
+    c.body_count-bodies.ensures.bodies c.run_whole.new.run c.run_whole.ensures

@@ -53,5 +53,5 @@ returns c =
     ∙ half_first bytes in
     fed_taken a.run a.pending a.piece.now a.out.now put.new.out _ given.result c.copied.result put.result fit
     (subst (λ l. LentOf l a.run given.result) calls given.ensures) left (ap (λ k. take k given.result.answers) count)
-    put.ensures.0
-    (omega (arith, put.ensures.1, length-take {A = ℕ} (length c.split_at.result.0.now / 2) given.result.answers)) put.ensures.2
+    put.ensures.put
+    (omega (arith, put.ensures.most, length-take {A = ℕ} (length c.split_at.result.0.now / 2) given.result.answers))

@@ -1,37 +1,28 @@
--- Each number on a line of its own.
+-- Each number on a line of its own, a byte's of 4 bytes at most.
 -- Assumes nothing.
-use Rattle.std.proofs.Common.{ℕ, ◌<◌, ap, length, take, arith, rules}
-use lib.Seq.{length-sets}
-use Rattle.tasklist.specs.Encode.{joined}
-use Rattle.wording.specs.Wording.{line}
+use Rattle.std.proofs.Common.{◌<◌, arith, rules, refl}
 use Rattle.wording.proofs.DigitLaws.{byte_line_most}
-use Rattle.wording.proofs.ClosingLaws.{lined_none, lined_more}
+use Rattle.wording.proofs.PutLaws.{put_by}
+use Rattle.wording.proofs.JoinedLaws.{joined_none, joined_more, joined_all}
 use Rattle.transcript.proofs.pieces.put_lines.Goals as goal
 
 pub loop-answer-init : goal.loop-answer-init
-loop-answer-init c = record { few = omega arith; lines = lined_none c.args.answers.now c.args.out.now }
+loop-answer-init c = joined_none _ _ _ _ _
 
 pub put_followed-at-requires : goal.put_followed-at-requires
 put_followed-at-requires c =
-    let l = c.loop-answer in
-    let x : ℕ = c.from.result in
-    let small : x < 256 = search rules in
-    omega (
-      arith,
-      byte_line_most x small,
-      ap length l.invariant.lines.places,
-      length-sets c.args.out.now 0 (joined line (take l.answer-index c.args.answers.now)),
-    )
+    let l = c.loop-answer.invariant in
+    let small : c.from.result < 256 = search rules in
+    omega (arith, byte_line_most c.from.result small, l.few, l.put.long, c.requires)
 
 pub loop-answer-preserved : goal.loop-answer-preserved
 loop-answer-preserved c =
-    let l = c.loop-answer in
     let put = c.put_followed-at in
-    let answers = c.args.answers.now in
-    let x : ℕ = c.from.result in
-    let small : x < 256 = search rules in record {
-      few = omega (arith, byte_line_most x small);
-      lines =
-          lined_more answers c.args.out.now l.out put.new.out l.at l.answer-index _ put.result c.loop-answer-test.true c.from.ensures
-          (omega arith) l.invariant.lines put.ensures.1 put.ensures.0;
-    }
+    let small : c.from.result < 256 = search rules in
+    joined_more _ _ _ _ _ c.loop-answer.invariant c.loop-answer-test.true 0
+    (rw (← c.from.ensures) (put_by _ _ _ _ _ put.ensures.0 put.ensures.1)) (omega (arith, put.ensures.0, byte_line_most c.from.result small)) refl
+
+pub returns : goal.returns
+returns c =
+    let all = joined_all _ _ _ _ _ c.loop-answer.invariant c.loop-answer-test.false in
+    record { put = all.0; most = omega (arith, all.1) }

@@ -1,10 +1,6 @@
-use Rattle.std.proofs.Common.{◌*◌, ◌≤◌}
-use Rattle.wording.proofs.ClosingLaws.{Lined}
+use Rattle.wording.specs.Wording.{line}
+use Rattle.wording.proofs.JoinedLaws.{JoinedPut}
 use Rattle.transcript.proofs.pieces.put_lines.Given as goal
 
 abbrev pub invariant-loop-answer : goal.invariant-loop-answer
-invariant-loop-answer l =
-    record {
-      few : l.at ≤ 4 * l.answer-index;
-      lines : Lined l.answers l.initial.out l.out l.at l.answer-index;
-    }
+invariant-loop-answer l = JoinedPut line 4 l.answers l.initial.out 0 l.out l.at l.answer-index

@@ -1,45 +1,27 @@
 -- Each location on a line of its own.
 -- Assumes nothing.
-use Rattle.std.proofs.Common.{ℕ, ◌^◌, ◌<◌, ◌≤◌, ◌≡◌, ap, ◌∙◌, List, length, take, get_or, arith, rules, refl, min}
-use lib.Seq.{length-sets}
+use Rattle.std.proofs.Common.{ℕ, ◌+◌, ◌≤◌, ◌≡◌, ap, length, arith, rules, refl}
 use lib.ListN.{length-take}
-use Rattle.tasklist.specs.Encode.{joined}
-use Rattle.wording.specs.Wording.{line}
-use Rattle.wording.proofs.ClosingLaws.{lined_none, lined_more, lined_all, memory_same, followed_most}
+use Rattle.plans.specs.View.{model as parts_model}
+use Rattle.wording.proofs.JoinedLaws.{joined_none, joined_more, joined_all}
 use Rattle.wording.proofs.closing.put_memory.Goals as goal
 
 pub loop-number-init : goal.loop-number-init
-loop-number-init c = lined_none _ _
-
-pub put_followed-at-requires : goal.put_followed-at-requires
-put_followed-at-requires c =
-    let l = c.loop-number in
-    let numbers : List ℕ = take c.min-locations.result c.args.run.memory in
-    let small : get_or numbers l.number-index 0 < 2 ^ 32 = search rules in
-    let long : length numbers ≤ 64 = omega (arith, length-take {A = ℕ} c.min-locations.result c.args.run.memory) in
-    omega (
-      arith,
-      followed_most (get_or numbers l.number-index 0) 10 small,
-      l.invariant.most,
-      ap length l.invariant.places,
-      length-sets c.args.out.now 0 (joined line (take l.number-index numbers)),
-    )
+loop-number-init c = joined_none _ _ _ _ _
 
 pub loop-number-preserved : goal.loop-number-preserved
 loop-number-preserved c =
     let l = c.loop-number in
-    let put = c.put_followed-at in
-    let numbers : List ℕ = take c.min-locations.result c.args.run.memory in
-    let small : get_or numbers l.number-index 0 < 2 ^ 32 = search rules in
-    lined_more numbers c.args.out.now l.out put.new.out l.at l.number-index _ put.result c.loop-number-test.true refl small l.invariant put.ensures.1 put.ensures.0
+    let whole : length c.args.run.memory ≡ 64 = search rules in
+    let room : l.at + 11 ≤ length l.out =
+    omega (arith, l.invariant.few, l.invariant.put.long, ap length c.entries-number-items.ensures, length-take {A = ℕ} c.args.run.tables.locations c.args.run.memory) in
+    joined_more _ _ _ _ _ l.invariant c.loop-number-test.true 0 (c.put_number-at.ensures.room room) (c.put_number-at.ensures.most room) refl
 
 pub returns : goal.returns
+unfolding parts_model
 returns c =
-    let run = c.args.run in
-    let n : ℕ = c.min-locations.result in
-    let whole : length run.memory ≡ 64 = search rules in
-    let locations : n ≡ min run.tables.locations 64 = c.min-locations.ensures ∙ ap (λ k. min k 64) c.from.ensures in
-    let all =
-    lined_all (take n run.memory) c.args.out.now c.loop-number.out c.loop-number.at c.loop-number.number-index
-    c.loop-number-test.false (omega (arith, length-take {A = ℕ} n run.memory)) c.loop-number.invariant in
-    rw (← memory_same run n whole locations) all
+    let whole : length c.args.run.memory ≡ 64 = search rules in
+    let few : length c.entries-number-items.result.now ≤ 64 =
+    omega (arith, ap length c.entries-number-items.ensures, length-take {A = ℕ} c.args.run.tables.locations c.args.run.memory) in
+    let all = joined_all _ _ _ _ _ c.loop-number.invariant c.loop-number-test.false in
+    record { put = rw (← c.entries-number-items.ensures) all.0; most = omega (arith, all.1, few) }

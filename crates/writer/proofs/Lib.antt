@@ -1,2 +1,0 @@
--- Laws of the records that are written.
-pub mod RecordLaws

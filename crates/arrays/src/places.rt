@@ -39,13 +39,17 @@ impl Order {
         }
     }
 
-    // Takes the task at place `at` out of the order, those behind it moved forward by one; leaves it where there is none.
+    // Takes the task at place `at` out of the order, those behind it moved forward by one; leaves it where there is none. Where more
+    // tasks are counted than there are places, the count alone falls.
     #[tactic(auto, using(crate::proofs::OrderLaws::removed))]
     pub fn remove(&mut self, at: usize)
-        ensures { at < self.old.left → self.old.left ≤ 128 → (self.new.left + 1 ≡ self.old.left) × (unended self.new ≡ without at (unended self.old)) }
+        ensures out { at < self.old.left → self.old.left ≤ 128 → (self.new.left + 1 ≡ self.old.left) × (unended self.new ≡ without at (unended self.old)) }
+        ensures fewer { at < self.old.left → self.new.left + 1 ≡ self.old.left }
     {
-        if at < self.left && self.left <= 128 {
-            self.places.copy_within(at + 1..self.left, at);
+        if at < self.left {
+            if self.left <= 128 {
+                self.places.copy_within(at + 1..self.left, at);
+            }
             self.left -= 1;
         }
     }

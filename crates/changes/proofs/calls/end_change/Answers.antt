@@ -10,5 +10,5 @@ returns c =
     λ run same table fits.
     let free = c.in_ok-place.ensures run same fits in
     end_changed (ordered a.order.now.places a.order.now.left run) a.task c.in_ok-place.place a.own same free.0 free.1 c.remove.new.self
-    (search rules) c.remove.ensures a.weights table c.weight_at.result c.weight_at.ensures.0 c.changed.result
+    (search rules) c.remove.ensures.out a.weights table c.weight_at.result c.weight_at.ensures.0 c.changed.result
     (c.changed.ensures ∙ ap (λ t. counted t c.weight_at.result) c.in_state-next.ensures)

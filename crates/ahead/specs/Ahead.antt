@@ -1,5 +1,5 @@
 -- What the tasks ahead do to the accesses of a call, by the table of modes.
-use Rattle.std.specs.Prelude.{ℕ, suc, List, [], ◌∷◌, Bool, true, false, Result, Ok, Err, cond, map, get_or, eqb}
+use Rattle.std.specs.Prelude.{ℕ, suc, List, [], ◌∷◌, Bool, true, false, Result, Ok, Err, cond, map, take, get_or, eqb}
 use Rattle.semantics.specs.declared.CallRefusal.{CallRefusal}
 use Rattle.semantics.specs.declared.CallRefusal.TheVariants.{BehindWriter, BehindOthers}
 use Rattle.semantics.specs.Access.{Access, every, any, compatible}
@@ -8,10 +8,15 @@ use Rattle.ahead.specs.declared.Hold.{Hold}
 use Rattle.ahead.specs.declared.Hold.TheVariants.{Free, Writer, Others}
 use Rattle.ahead.specs.declared.Searched.{Searched}
 use Rattle.ahead.specs.declared.Access as Declared
+use Rattle.ahead.specs.declared.accesses.Wanted.{Wanted}
 use Rattle.arrays.specs.Rows.{row}
 
 abbrev pub access : ℕ → ℕ → Access
 access location mode = record { location = location; mode = mode }
+
+-- the accesses that stand in one value
+abbrev pub wanted : Wanted → List Declared.Access
+wanted w = take w.count w.accesses
 
 -- the accesses in the model's words
 unfoldable pub accesses_of : List Declared.Access → List Access

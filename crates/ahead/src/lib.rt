@@ -6,11 +6,13 @@ ghost use Rattle.ahead.specs.Ahead.{past};
 
 use semantics::CallRefusal;
 
+mod accesses;
 mod search;
 mod wanted;
 
+pub use accesses::Wanted;
 pub use search::{passable, search_ahead};
-pub use wanted::{Wanted, wanted_at, wanted_of};
+pub use wanted::{wanted_at, wanted_of};
 
 // What the tasks ahead do to the accesses of a call.
 #[derive(Clone, Copy, Debug, PartialEq, Eq)]

@@ -1,12 +1,12 @@
 // The accesses of a call.
-ghost use Rattle.std.specs.Prelude.{◌<◌, ◌≡◌, [], ◌∷◌};
+ghost use Rattle.std.specs.Prelude.{◌<◌, ◌≤◌, ◌≡◌, [], ◌∷◌};
 ghost use Rattle.semantics.specs.Plan.{needs_from};
 ghost use Rattle.arrays.specs.Rows.{row};
-ghost use Rattle.ahead.specs.Ahead.{access, accesses_of};
+ghost use Rattle.ahead.specs.Ahead.{access, accesses_of, wanted};
 
 use crate::Access;
+use crate::accesses::Wanted;
 use arrays::row_of;
-use std::marker::Model;
 
 // What stands behind the accesses of a call.
 const NONE: Access = Access {
@@ -14,30 +14,10 @@ const NONE: Access = Access {
     asked: 0,
 };
 
-// The accesses of a call, at most 64.
-// Kept: an array and a count, since there is no heap. Callers see them as a slice.
-#[derive(Drop)]
-pub struct Wanted {
-    count: usize,
-    accesses: [Access; 64],
-}
-
-// Clauses see the accesses.
-impl Model for Wanted {
-    ghost use Rattle.std.specs.Prelude.{◌≤◌, List, take};
-    ghost use Rattle.ahead.specs.declared.Access.{Access};
-
-    ghost Value = { List Access };
-
-    ghost view = { λ w. take w.count w.accesses };
-
-    ghost invariant = { λ w. w.count ≤ 64 };
-}
-
 impl Wanted {
     // The accesses.
     pub fn as_slice(&self) -> &[Access]
-        ensures { result.now ≡ self.now }
+        ensures { result.now ≡ wanted self.now }
     {
         &self.accesses[..self.count]
     }
@@ -45,7 +25,7 @@ impl Wanted {
 
 // The accesses of a task's start: every location where its mode isn't 0, in that mode.
 pub fn wanted_of(modes: &[u8; 8192], task: usize) -> Wanted
-    ensures { task < 128 → accesses_of result ≡ needs_from 0 (row task modes.now) }
+    ensures { task < 128 → accesses_of (wanted result) ≡ needs_from 0 (row task modes.now) }
 {
     let mut accesses = [NONE; 64];
     let mut count = 0;
@@ -58,15 +38,18 @@ pub fn wanted_of(modes: &[u8; 8192], task: usize) -> Wanted
     Wanted { count, accesses }
 }
 
-// One access.
+// One access. Beyond the locations it is one at location 0, in mode 0.
 #[tactic(auto, unfolding(crate::specs::Ahead::accesses_of))]
 pub fn wanted_at(location: usize, mode: u8) -> Wanted
-    ensures { location < 64 → accesses_of result ≡ access location mode ∷ [] }
+    ensures one { location < 64 → accesses_of (wanted result) ≡ access location mode ∷ [] }
+    ensures none { 64 ≤ location → accesses_of (wanted result) ≡ access 0 0 ∷ [] }
 {
     let mut accesses = [NONE; 64];
-    accesses[0] = Access {
-        location: u8::try_from(location).unwrap_or(0),
-        asked: mode,
-    };
+    if location < 64 {
+        accesses[0] = Access {
+            location: location as u8,
+            asked: mode,
+        };
+    }
     Wanted { count: 1, accesses }
 }

@@ -65,6 +65,19 @@ loop-location-preserved-then-asked-ne0 c =
           (at.invariant.2 below) c.if-asked-ne0.true),
     )
 
+pub invariant_of-result : goal.invariant_of-result
+invariant_of-result c =
+    let at = c.loop-location in
+    let end =
+    YieldsList-end {s = c.into_iter-location-iterator.result}
+    (YieldsList-from_zip (YieldsList-from_range 0 64 64 (cc) refl) (YieldsList-from_slice c.row_of.result (cc)))
+    at.yielded at.location-iterator at.yielded_by c.next.result c.next.new.self c.in-None.is c.next.ensures.steps in
+    let size : length c.row_of.result ≡ 64 = search rules in
+    record {
+      few = omega (arith, at.invariant.0, end.1, length-zip (range_with_len 0 64) c.row_of.result, length-range_with_len 0 64, size);
+      whole = at.invariant.1;
+    }
+
 pub returns : goal.returns
 returns c =
     let at = c.loop-location in

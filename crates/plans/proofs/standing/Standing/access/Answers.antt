@@ -22,7 +22,7 @@ returns-in_err-look c =
     let held : AccessIn s.order.now.places s.modes.now s.task s.place a.location a.tested a.asked (Err (Held c.in_err-look.field-0.0)) =
     λ run.
     access_held (looking s.order.now.places s.modes.now run) s.task s.place a.location a.tested a.asked c.own_mode.result c.own_mode.ensures
-    c.access_fault.result c.access_fault.ensures c.in_ok-access_fault.was _ (λ near. ap accesses_of c.as_slice.ensures ∙ c.wanted_at.ensures near)
+    c.access_fault.result c.access_fault.ensures c.in_ok-access_fault.was _ (λ near. ap accesses_of c.as_slice.ensures ∙ c.wanted_at.ensures.one near)
     c.look.result c.look.ensures c.in_err-look.field-0.0 c.in_err-look.was in
     search rules
 
@@ -32,5 +32,5 @@ returns c =
     let s = a.self.now in
     λ run.
     access_free (looking s.order.now.places s.modes.now run) s.task s.place a.location a.tested a.asked c.own_mode.result c.own_mode.ensures
-    c.access_fault.result c.access_fault.ensures c.in_ok-access_fault.was _ (λ near. ap accesses_of c.as_slice.ensures ∙ c.wanted_at.ensures near)
+    c.access_fault.result c.access_fault.ensures c.in_ok-access_fault.was _ (λ near. ap accesses_of c.as_slice.ensures ∙ c.wanted_at.ensures.one near)
     c.look.result c.look.ensures c.in_ok-look.was

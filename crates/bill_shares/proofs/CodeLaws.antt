@@ -1,13 +1,14 @@
 -- What the functions and the loops of the code come to. Assumes nothing.
-use Prim.Native.Nat.{ℕ, zero, suc, ◌+◌, ◌-◌, ◌^◌, ◌≤◌, ◌<◌, min}
-use mathlib.Core.Path.{◌≡◌, refl, sym, ap, ◌∙◌}
+use Prim.Native.Nat.{ℕ, zero, suc, ◌+◌, ◌-◌, ◌*◌, ◌/◌, ◌%◌, ◌^◌, ◌≤◌, ◌<◌, min}
+use mathlib.Core.Path.{◌≡◌, refl, sym, ap, subst, ◌∙◌}
 use mathlib.Core.List.{List, ◌∷◌, ◌++◌, map}
 use mathlib.Core.Bool.{Bool, true, false, cond, ◌&&◌, ◌||◌}
 use native.Mathlib.Omega.{arith}
+use native.Mathlib.Decide.{dec_lt}
 use native.Mathlib.Numerals.{add-one}
 use Rattle.std.proofs.Common.{zero-add, get_or-take}
 use lib.ListN.{length, length-map, length-take, take, get_or, set, replicate}
-use lib.Seq.{append_snoc, set_at, take_all, ext_get_or}
+use lib.Seq.{get_or-set_same, get_or-set_other, append_snoc, set_at, take_all, ext_get_or}
 use lib.Dec.{ltb, eqb}
 use borrow.Author.Tests.{ltb-true}
 use mir.Val.{bool_byte}
@@ -23,6 +24,25 @@ use Rattle.bill_shares.proofs.ShareLaws.{at_most_whole, length_listed, listed_ne
 abbrev pub none : Part
 none = record { floor = 0; remainder = 0 }
 
+-- what a weight comes to, where it is at most the whole
+abbrev pub ComesTo : ℕ → ℕ → ℕ → Part → Type 0
+ComesTo bill all w p = w ≤ all → (p.floor ≡ bill * w / all) × (p.remainder ≡ bill * w % all)
+
+-- one part more
+module _ (bill all : ℕ) (weights : List ℕ) (parts : List Part) (next : Part) (i : ℕ) where
+  pub comes_next :
+      i < length parts → ((k : ℕ) → k < i → ComesTo bill all (get_or weights k 0) (get_or parts k none))
+      → ComesTo bill all (get_or weights i 0) next
+      → (k : ℕ) → k < i + 1 → ComesTo bill all (get_or weights k 0) (get_or (set parts i next) k none)
+  comes_next inside held new k h = sort (dec_lt k i)
+    where
+      sort : Dec (k < i) → ComesTo bill all (get_or weights k 0) (get_or (set parts i next) k none)
+      sort (yes l) = subst (ComesTo bill all (get_or weights k 0)) (sym (get_or-set_other parts i k next none (λ e. omega (arith, e)))) (held k l)
+      sort (no l) =
+          let same : k ≡ i = omega arith in
+          subst (λ j. ComesTo bill all (get_or weights j 0) (get_or (set parts i next) j none)) (sym same)
+          (subst (ComesTo bill all (get_or weights i 0)) (sym (get_or-set_same parts i next none inside)) new)
+
 -- a truth as a number
 penny_is : (b : Bool) → bool_byte b ≡ cond b 1 0
 penny_is true = refl
@@ -32,7 +52,7 @@ penny_is false = refl
 module _ (count : ℕ) (weights : List ℕ) (parts : List Part) (long : length weights ≡ 128) (many : length parts ≡ 128) where
   pub parts_are :
       (of : Part → ℕ) (value : ℕ → ℕ)
-      → ((k : ℕ) → k < 128 → get_or weights k 0 ≤ whole (take count weights) → of (get_or parts k none) ≡ value (get_or weights k 0))
+      → ((k : ℕ) → k < min count 128 → get_or weights k 0 ≤ whole (take count weights) → of (get_or parts k none) ≡ value (get_or weights k 0))
       → map of (take (min count 128) parts) ≡ map value (take count weights)
   parts_are of value each =
       let xs = take (min count 128) parts in

@@ -15,7 +15,7 @@ use Rattle.std.proofs.lemmas.List.{get_or-map}
 use Rattle.bill_shares.specs.Shares.{whole, floors, remainders, remaining, comes_before, count_below, rank_of, share_at, listed, shares}
 use Rattle.bill_shares.specs.Statement.{Shared, SharedLaw}
 use Rattle.bill_shares.proofs.Counting.{count_next, count_empty, count_mono, count_most}
-use Rattle.bill_shares.proofs.ShareLaws.{listed_at, listed_items, whole_next, whole_empty, whole_pennies, divided, floors_most, floors_count, remainders_count, shares_count}
+use Rattle.bill_shares.proofs.ShareLaws.{at_most_whole, listed_at, listed_items, whole_next, whole_empty, whole_pennies, divided, floors_most, floors_count, remainders_count, shares_count}
 use Rattle.bill_shares.proofs.RankLaws.{Before, true_before, one_before, rank_less, ranks_below}
 
 abbrev is_some : ℕ → Bool
@@ -215,3 +215,7 @@ module _ (bill : ℕ) (ws : List ℕ) (some : 0 < whole ws) where
 
 pub shared : SharedLaw
 shared = all_holds
+
+-- no share is above the bill
+pub shares_small : (bill : ℕ) (ws : List ℕ) → 0 < whole ws → (i : ℕ) → get_or (shares bill ws) i 0 ≤ bill
+shares_small bill ws some i = omega (arith, at_most_whole (shares bill ws) i, (shared bill ws some).totals)

@@ -28,6 +28,12 @@ struct Part {
     remainder: u64,
 }
 
+// What a weight of 0 comes to.
+const NOTHING: Part = Part {
+    floor: 0,
+    remainder: 0,
+};
+
 // A whole of 0 divides nothing: there each weight is 0, and so are its share and its remainder.
 fn part_of(bill: u32, weight: u32, all: u64) -> Part
     ensures floor { weight ≤ all → result.floor ≡ bill * weight / all }
@@ -67,10 +73,14 @@ impl Parts {
         ensures remainders { map (λ p. p.remainder) result ≡ remainders bill (take count weights) }
     {
         let all = whole_of(weights, count);
-        Parts {
-            count: count.min(PLACES),
-            parts: weights.map(|weight| part_of(bill, weight, all)),
+        let count = count.min(PLACES);
+        let mut parts = [NOTHING; PLACES];
+        // Kept: by number. Of what is written through an iterator too little is known behind the loop, and `map` over the array would
+        // divide for places that don't count.
+        for i in 0..count {
+            parts[i] = part_of(bill, weights[i], all);
         }
+        Parts { count, parts }
     }
 
     fn as_slice(&self) -> &[Part]

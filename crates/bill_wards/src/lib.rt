@@ -2,12 +2,12 @@
 // promises: it reads a run by what may be asked of one (crate `inspect`). The numbers alone stand in the crate `bill_shares`.
 #![tactic(auto)]
 
-ghost use Rattle.std.specs.Prelude.{◌≡◌, ◌%◌, ◌^◌, length, take, drop};
+ghost use Rattle.std.specs.Prelude.{◌≡◌, ◌≤◌, ◌%◌, ◌^◌, length, take, drop};
 ghost use Rattle.std.proofs.lemmas.List.Edits.{sets};
 ghost use Rattle.tasklist.specs.TaskList.{total};
 ghost use Rattle.semantics.specs.Sound.{weighs};
 ghost use Rattle.runtime.specs.View.{model};
-ghost use Rattle.bill_wards.specs.Answers.{bill_refusal_number};
+ghost use Rattle.bill_wards.specs.Answers.{bill_refusal_number, refusal_of};
 ghost use Rattle.bill_wards.specs.Promises.{Room, Turned, WardsOf, BilledAs};
 
 use bill_shares::PLACES;
@@ -40,6 +40,17 @@ impl From<BillRefusal> for u8 {
             BillRefusal::NoWard => 29,
             BillRefusal::Short => 17,
         }
+    }
+}
+
+// What was answered, as the number of request 114: 0 where the bill is shared.
+pub fn billed_number(answer: Result<usize, BillRefusal>) -> u32
+    ensures number { result ≡ refusal_of answer }
+    ensures most { result ≤ 29 }
+{
+    match answer {
+        Ok(_) => 0,
+        Err(refusal) => u32::from(u8::from(refusal)),
     }
 }
 

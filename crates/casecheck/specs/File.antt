@@ -1,5 +1,7 @@
 -- The file of cases (docs/cases.md): its parts, one behind the other from the front. Assumes nothing.
-use Rattle.std.specs.Prelude.{ℕ, ◌+◌, ◌*◌, List, [], ◌∷◌, leb, cond, length, take, drop, Option, Some, None}
+use Rattle.std.specs.Prelude.{ℕ, ◌+◌, ◌*◌, ◌/◌, List, [], ◌∷◌, leb, cond, length, take, drop, map, Option, Some, None}
+use Rattle.std.specs.Int.{w32, from_le_bytes}
+use Rattle.std.specs.Simd.{first_chunks}
 use Rattle.std.specs.Borrow.{Bor}
 
 -- so many bytes at the front and those behind them, where there are as many
@@ -38,3 +40,7 @@ case_front bytes = list_behind (part 1 bytes)
 abbrev pub split_as : Option (Bor (List ℕ) × Bor (List ℕ)) → Option (List ℕ × List ℕ)
 split_as None = None
 split_as (Some p) = Some (p.0.now, p.1.now)
+
+-- "Numbers are least byte first.": those of the library, four bytes for each
+abbrev pub words_of : List ℕ → List ℕ
+words_of bytes = map (from_le_bytes w32) (first_chunks 4 (length bytes / 4) bytes)

@@ -1,9 +1,13 @@
 // The wards of a run and the bills shared among them (request 114), in lines. Every place of the lent slice is filled before, so
 // that a place that ought to keep what stood in it shows. In front of each line stands a prefix: none, or `hand ` for the
 // sequential run's.
+ghost use Rattle.std.specs.Prelude.{◌≡◌};
+ghost use Rattle.bill_wards.specs.Answers.{named};
+
 use crate::lent::places_taken;
 use crate::text::{put_numbers, put_spoiled};
 use bill_shares::PLACES;
+use bill_wards::BillRefusal;
 use runtime::Run;
 use std::io::{self, Write};
 
@@ -16,6 +20,13 @@ const BILLS: [u32; 5] = [0, 1, 7, 100, u32::MAX];
 // The bill that is also shared into too short a slice.
 const SHORT_BILL: u32 = 100;
 
+// How many places an answer names; none where the bill isn't shared.
+fn places_named(got: Result<usize, BillRefusal>) -> usize
+    ensures { result ≡ named got }
+{
+    got.unwrap_or(0)
+}
+
 // The shares of a bill, into so many places: ` N P P ..` or ` refused K`, to the end of its line, and the line `spoiled` where
 // a place that the answer doesn't name was written.
 fn put_bill<W: Write>(out: &mut W, run: &Run, bill: u32, room: usize) -> io::Result<()> {
@@ -23,14 +34,14 @@ fn put_bill<W: Write>(out: &mut W, run: &Run, bill: u32, room: usize) -> io::Res
     let got = bill_wards::shares(*run, bill, &mut places[..room.min(PLACES)]);
     match got {
         Ok(n) => {
-            let (named, rest) = places.split_at(n.min(PLACES));
+            let (named, rest) = places.split_at(places_named(got).min(PLACES));
             write!(out, " {n}")?;
             put_numbers(out, named)?;
             writeln!(out)?;
             put_spoiled(out, rest, CANARY)
         }
-        Err(refusal) => {
-            writeln!(out, " refused {}", u8::from(refusal))?;
+        Err(_) => {
+            writeln!(out, " refused {}", bill_wards::billed_number(got))?;
             put_spoiled(out, &places, CANARY)
         }
     }

@@ -1,4 +1,5 @@
 // A case: its calls on a fresh run, what is then asked of it, and the sequential run and the rounds beside it.
+use crate::answers::answer_number;
 use crate::asks::{put_memory, put_record, put_records, put_totals};
 use crate::bill::put_shares;
 use crate::file::{Case, words};
@@ -25,7 +26,7 @@ fn put_calls<W: Write>(out: &mut W, mut run: Run, calls: &[u8]) -> io::Result<Ru
     let (calls, _) = calls.as_chunks::<5>();
     for &[kind, a, b, c, d] in calls {
         let done = called(run, kind, u32::from_le_bytes([a, b, c, d]));
-        write!(out, " {}", done.answer.err().map_or(0, u8::from))?;
+        write!(out, " {}", answer_number(done.answer))?;
         run = done.run;
     }
     writeln!(out)?;

@@ -1,6 +1,6 @@
 // The file of cases: the cases from its front, the parts of each, and the numbers in them, least byte first.
-ghost use Rattle.std.specs.Prelude.{◌≡◌, ◌<◌, length, IfSome};
-ghost use Rattle.casecheck.specs.File.{part, split_as, case_front};
+ghost use Rattle.std.specs.Prelude.{◌≡◌, ◌<◌, length, take, IfSome};
+ghost use Rattle.casecheck.specs.File.{part, split_as, case_front, words_of};
 ghost use Rattle.casecheck.specs.Cases.{case_split, NextCase};
 ghost use Rattle.std.specs.Iterator.{at_most};
 
@@ -71,12 +71,15 @@ impl<'a> Iterator for Cases<'a> {
 }
 
 // The numbers, at the front of an array that is lent for them: as many as it has room for.
-pub fn words<'a>(bytes: &[u8], room: &'a mut [u32; 16384]) -> &'a [u32] {
+pub fn words<'a>(bytes: &[u8], room: &'a mut [u32; 16384]) -> &'a [u32]
+    ensures { result.now ≡ take 16384 (words_of bytes.now) }
+{
     let (fours, _) = bytes.as_chunks::<4>();
-    for (word, four) in room.iter_mut().zip(fours) {
-        *word = u32::from_le_bytes(*four);
+    let count = fours.len().min(16384);
+    for (i, four) in fours[..count].iter().enumerate() {
+        room[i] = u32::from_le_bytes(*four);
     }
-    &room[..fours.len().min(16384)]
+    &room[..count]
 }
 
 // Whether every call, of five bytes, is a start, a step or an end.

@@ -63,7 +63,9 @@ pub fn put_queues<W: Write>(out: &mut W, run: &Run) -> io::Result<()> {
 }
 
 // How many places the queue of a location takes.
-fn queue_size(run: &Run, location: u8) -> usize {
+fn queue_size(run: &Run, location: u8) -> usize
+    ensures { result ≤ 128 }
+{
     places_taken([PLACE; 128], |places| {
         inspect::location_queue(*run, u32::from(location), places)
     })

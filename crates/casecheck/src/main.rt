@@ -6,20 +6,23 @@
 use host_files::{fill, open_named};
 use std::env::Env;
 use std::fs::Files;
-use std::io::{self, BufWriter, Read, Write};
+use std::io::{self, Read, Write};
 
+mod answers;
 mod asks;
 mod bill;
 mod cases;
 mod file;
 mod lent;
 mod moves;
+mod pieces;
 mod rounds;
 mod searches;
 mod text;
 
 use cases::put_case;
 use file::{Cases, kinds_known};
+use pieces::Pieces;
 use text::put_bad_file;
 
 // How many bytes the longest file has.
@@ -56,7 +59,7 @@ fn put_named<W: Write, R: Files>(out: &mut W, rt: &R, name: &[u8]) -> io::Result
 
 // The cases of the file that the first argument names.
 fn run(rt: &HostRuntime) -> io::Result<()> {
-    let mut out = BufWriter::new(rt.alloc(), io::writer(rt))?;
+    let mut out = Pieces::new(io::writer(rt));
     let mut name = [0u8; 4096];
     match rt.arg(1, &mut name) {
         Ok(n) => put_named(&mut out, rt, &name[..n])?,
@@ -65,7 +68,7 @@ fn run(rt: &HostRuntime) -> io::Result<()> {
     out.flush()
 }
 
-// Where the output fails, the rest is left out and nothing is told.
+// A write that fails is passed over: the next is tried all the same, and nothing is told.
 fn main(rt: HostRuntime) {
     let _ = run(&rt);
 }

@@ -1,5 +1,6 @@
 // What the search of each task in the order finds (request 103), in lines: for all locations (document 01: entries) of its
 // footprint together, then for each by itself.
+use crate::answers::answer_number;
 use crate::asks::locations;
 use ahead::Access;
 use runtime::Run;
@@ -9,7 +10,7 @@ use std::io::{self, Write};
 fn put_search<W: Write>(out: &mut W, run: &Run, task: u8, wanted: &[Access]) -> io::Result<()> {
     match inspect::task_search(*run, u32::from(task), wanted) {
         Ok(searched) => {
-            let number = searched.hold.answer().err().map_or(0, u8::from);
+            let number = answer_number(searched.hold.answer());
             write!(out, " {number} {}", searched.looked)
         }
         Err(refusal) => write!(out, " refused {}", u8::from(refusal)),

@@ -10,7 +10,7 @@ ghost use Rattle.coordinator.specs.Files.{OpenedFrom};
 use host_files::Folder;
 use runtime::{OpenRefusal, Run};
 use std::fs::Files;
-use std::io::{self, Read};
+use std::io::Read;
 use tasklist::Refusal;
 use transcript::Fed;
 
@@ -38,31 +38,36 @@ fn fed_whole(run: Run, pending: Option<u8>, piece: &[u8], out: &mut [u8]) -> Fed
     transcript::feed(run, pending, piece, out)
 }
 
+// Writes text. A write that fails is passed over: the next is tried all the same, and nothing is told.
+fn put(rt: &impl Print, text: &[u8]) {
+    let _ = rt.write_all(text);
+}
+
 // Makes the calls of a piece of the input and prints their lines.
-fn take_turn(rt: &impl Print, session: Session, piece: &[u8]) -> io::Result<Session>
+fn take_turn(rt: &impl Print, session: Session, piece: &[u8]) -> Session
     requires { length piece.now ≤ 511 }
 {
     let mut out = [0u8; 1024];
     let fed = fed_whole(session.run, session.pending, piece, &mut out);
-    rt.write_all(&out[..fed.wrote])?;
-    Ok(Session {
+    put(rt, &out[..fed.wrote]);
+    Session {
         run: fed.run,
         pending: fed.pending,
-    })
+    }
 }
 
 // What is printed at the input's end.
-fn finish(rt: &impl Print, session: Session) -> io::Result<()> {
+fn finish(rt: &impl Print, session: Session) {
     let mut out = [0u8; 1024];
     let half = wording::half_line(session.pending, &mut out);
-    rt.write_all(&out[..half])?;
+    put(rt, &out[..half]);
     let rest = wording::closing_lines(session.run, &mut out);
-    rt.write_all(&out[..rest])
+    put(rt, &out[..rest]);
 }
 
 // The whole input, piece by piece; a read that fails counts as its end. A proved loop has to end, and nothing says that the
 // input does: it goes over more pieces than any input has.
-fn serve<I: Read>(rt: &impl Print, input: &mut I, run: Run) -> io::Result<()> {
+fn serve<I: Read>(rt: &impl Print, input: &mut I, run: Run) {
     let mut session = Session { run, pending: None };
     for _ in 0..u64::MAX {
         let mut piece = [0u8; 511];
@@ -70,28 +75,27 @@ fn serve<I: Read>(rt: &impl Print, input: &mut I, run: Run) -> io::Result<()> {
         if n == 0 {
             break;
         }
-        session = take_turn(rt, session, &piece[..n])?;
+        session = take_turn(rt, session, &piece[..n]);
     }
-    finish(rt, session)
+    finish(rt, session);
 }
 
 // The line of a failed open.
-fn refuse(rt: &impl Print, refusal: OpenRefusal) -> io::Result<()> {
+fn refuse(rt: &impl Print, refusal: OpenRefusal) {
     let mut out = [0u8; 16];
     let n = wording::open_line(Err(refusal), &mut out);
-    rt.write_all(&out[..n])
+    put(rt, &out[..n]);
 }
 
 // The files of the folder that it runs in, and the calls of an input.
-fn coordinate<R: Files + Print, I: Read>(rt: &R, input: &mut I) -> io::Result<()> {
+fn coordinate<R: Files + Print, I: Read>(rt: &R, input: &mut I) {
     match opened(&Folder::read(rt)) {
         Ok(run) => serve(rt, input, run),
         Err(refusal) => refuse(rt, refusal),
     }
 }
 
-// Where the output fails, the rest is left out and nothing is told.
 fn main(rt: HostRuntime) {
     let mut input = rt.stdin();
-    let _ = coordinate(&rt, &mut input);
+    coordinate(&rt, &mut input);
 }

@@ -10,10 +10,12 @@ use std::io::{self, Read};
 
 mod list;
 mod refused;
+mod trying;
 mod words;
 
 use list::print_list;
 use refused::print_refused;
+use trying::Trying;
 
 const USAGE: &str = "usage: explain FILE..
 Prints each job list in the text form that tools/assemble reads, with the jobs that it can make as comments;
@@ -37,33 +39,33 @@ fn explain_open<F: Read>(rt: &impl Print, file: &mut F) -> io::Result<()> {
 }
 
 // Explains the file of a name.
-fn explain_file<R: Files + Print>(rt: &R, name: &[u8]) -> io::Result<()> {
-    print!(rt; "# ")?;
-    rt.write_all(name)?;
-    println!(rt)?;
+fn explain_file<R: Files>(rt: &R, out: &impl Print, name: &[u8]) -> io::Result<()> {
+    print!(out; "# ")?;
+    out.write_all(name)?;
+    println!(out)?;
     match open_named(rt, name) {
-        Some(mut file) => explain_open(rt, &mut file),
-        None => println!(rt; "this file can't be opened"),
+        Some(mut file) => explain_open(out, &mut file),
+        None => println!(out; "this file can't be opened"),
     }
 }
 
 // Explains the files that the arguments name. `--help` is no name.
-fn run<R: Env + Files + Print>(rt: &R) -> io::Result<()> {
+fn run<R: Env + Files>(rt: &R, out: &impl Print) -> io::Result<()> {
     // Kept: a count in the place of `env::args`, which makes Strings on the heap and fails where one argument is no text.
     for i in 1..usize::MAX {
         let mut name = [0u8; 4096];
         match rt.arg(i, &mut name) {
-            Ok(n) if &name[..n] == b"--help".as_slice() => rt.println(USAGE)?,
-            Ok(n) => explain_file(rt, &name[..n])?,
-            Err(FillError::TooLong) => println!(rt; "this file can't be opened")?,
-            Err(FillError::NotPresent) if i == 1 => return rt.println(USAGE),
+            Ok(n) if &name[..n] == b"--help".as_slice() => out.println(USAGE)?,
+            Ok(n) => explain_file(rt, out, &name[..n])?,
+            Err(FillError::TooLong) => println!(out; "this file can't be opened")?,
+            Err(FillError::NotPresent) if i == 1 => return out.println(USAGE),
             Err(FillError::NotPresent) => return Ok(()),
         }
     }
     Ok(())
 }
 
-// Where the output fails, the rest is left out and nothing is told.
+// A write that fails is passed over: the next is tried all the same, and nothing is told.
 fn main(rt: HostRuntime) {
-    let _ = run(&rt);
+    let _ = run(&rt, &Trying(&rt));
 }

@@ -86,7 +86,7 @@ module _ (run : Parts) (n : ℕ) (below : n < 128) (place : ℕ) (p : Placed run
   start_started h = by_plan run n below p.listed start ∙ rw (in_other_state 1 h) refl
 
   -- what the look at the tasks ahead says of the task's accesses
-  start_looked :
+  pub start_looked :
       (record_of run n).state ≡ 1 → (gs : List Access) → gs ≡ needs_from 0 (row n run.modes) → (r : Result Unit CallRefusal)
       → r ≡ past (hold_ahead run.modes (take place run.order) gs) → decided run start n ≡ looked_to r (start_effect run n)
   unfolding plan plan_start settle

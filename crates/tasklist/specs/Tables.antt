@@ -19,7 +19,7 @@ list_of t =
       bodies = rows 32 (take t.bodies t.sizes) t.cells;
     }
 
--- the tables that a refused list leaves
+-- the tables that reading begins with
 unfoldable pub blank_tables : Tables
 blank_tables =
     record {

@@ -138,7 +138,7 @@ module _ (run : Run) where
         occupied : (model run).order ≡ [] → ⊥
         occupied q = let z : length (n ∷ foremost.0) ≡ 0 = ap length (sym foremost.1 ∙ q) in omega (arith, z)
 
-    moved_made : (u : Unit) → done.answer ≡ Ok u → MovedAs run (record { answer = Ok u; run = done.run })
+    pub moved_made : (u : Unit) → done.answer ≡ Ok u → MovedAs run (record { answer = Ok u; run = done.run })
     unfolding next_call
     moved_made u q =
         record {
@@ -156,7 +156,7 @@ module _ (run : Run) where
           refused = λ k p. cc;
         }
 
-    moved_refused : (k : CallRefusal) → done.answer ≡ Err k → MovedAs run (record { answer = Err (Call k); run = done.run })
+    pub moved_refused : (k : CallRefusal) → done.answer ≡ Err k → MovedAs run (record { answer = Err (Call k); run = done.run })
     moved_refused k q =
         record {
           answer = λ s. absurd (never s);
